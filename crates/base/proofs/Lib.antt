@@ -1,0 +1,5 @@
+pub mod Below
+pub mod Digits
+pub mod Lists
+pub mod Order
+pub mod Refusal

@@ -1,0 +1,18 @@
+-- A number of k bytes, least significant byte first, as the trace file holds it.
+use Prim.Native.Nat.{ℕ, zero, suc, _+_, _*_, _/_, _%_}
+use mathlib.Core.List.{List, [], _∷_}
+use lib.ListN.{getD}
+
+-- the byte at a place, and 0 past the end
+abbrev pub byte : List ℕ → ℕ → ℕ
+byte s p = getD s p 0
+
+-- the number that the k bytes from a place on spell
+unfoldable pub number : ℕ → List ℕ → ℕ → ℕ
+number zero s p = 0
+number (suc k) s p = byte s p + 256 * number k s (suc p)
+
+-- the k bytes that spell a number
+unfoldable pub digits : ℕ → ℕ → List ℕ
+digits zero v = []
+digits (suc k) v = v % 256 ∷ digits k (v / 256)

@@ -1,0 +1,3 @@
+pub mod Below
+pub mod Refusal
+pub mod Digits

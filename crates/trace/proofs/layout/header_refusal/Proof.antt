@@ -1,0 +1,72 @@
+-- `trace::layout::header_refusal` meets its contract: each test is the definition's.
+-- Assumes nothing.
+use borrow.Author.Needs.{needs}
+use Rattle.trace.specs.Header.{headerRefusal, orderAllowed, countAllowed}
+use Rattle.trace.proofs.layout.header_refusal.Statement.{statement}
+use Rattle.trace.proofs.layout.header_refusal.Tie as tie
+
+model-allowed-requires : tie.Need-model-allowed-requires
+model-allowed-requires c κs = search needs
+
+unless-requires : tie.Need-unless-requires
+unless-requires c κs = search needs
+
+unless-requires-2 : tie.Need-unless-requires-2
+unless-requires-2 c κs = search needs
+
+side-allowed-requires : tie.Need-side-allowed-requires
+side-allowed-requires c κs = search needs
+
+unless-requires-3 : tie.Need-unless-requires-3
+unless-requires-3 c κs = search needs
+
+side-allowed-requires-2 : tie.Need-side-allowed-requires-2
+side-allowed-requires-2 c κs = search needs
+
+unless-requires-4 : tie.Need-unless-requires-4
+unless-requires-4 c κs = search needs
+
+unless-requires-5 : tie.Need-unless-requires-5
+unless-requires-5 c κs = search needs
+
+unless-requires-6 : tie.Need-unless-requires-6
+unless-requires-6 c κs = search needs
+
+first-requires : tie.Need-first-requires
+first-requires c κs = search needs
+
+first-requires-2 : tie.Need-first-requires-2
+first-requires-2 c κs = search needs
+
+first-requires-3 : tie.Need-first-requires-3
+first-requires-3 c κs = search needs
+
+first-requires-4 : tie.Need-first-requires-4
+first-requires-4 c κs = search needs
+
+first-requires-5 : tie.Need-first-requires-5
+first-requires-5 c κs = search needs
+
+returns : tie.Need-returns
+unfolding headerRefusal orderAllowed countAllowed
+returns c = cc
+
+pub header-refusal-spec : {M : Type 1} → statement M
+header-refusal-spec =
+    tie.close
+    (tie.spec
+    model-allowed-requires
+    unless-requires
+    unless-requires-2
+    side-allowed-requires
+    unless-requires-3
+    side-allowed-requires-2
+    unless-requires-4
+    unless-requires-5
+    unless-requires-6
+    first-requires
+    first-requires-2
+    first-requires-3
+    first-requires-4
+    first-requires-5
+    returns)

@@ -1,0 +1,52 @@
+-- `trace::layout::places` meets its contract.
+-- Assumes nothing.
+use borrow.Author.Needs.{needs}
+use Rattle.trace.specs.Header.{placesOf, slotCountsAt, arrivalsAt, totalOf}
+use Rattle.trace.proofs.layout.places.Statement.{statement}
+use Rattle.trace.proofs.layout.places.Tie as tie
+
+capacity-count-requires : tie.Need-capacity-count-requires
+capacity-count-requires c κs = search needs
+
+mul-counts : tie.Need-mul-counts
+mul-counts c = search needs
+
+add-counts : tie.Need-add-counts
+add-counts c = search needs
+
+cast-at : tie.Need-cast-at
+cast-at c = search needs
+
+mul-at : tie.Need-mul-at
+mul-at c = search needs
+
+add-at : tie.Need-add-at
+add-at c = search needs
+
+cast-t5 : tie.Need-cast-t5
+cast-t5 c = search needs
+
+mul-t6 : tie.Need-mul-t6
+mul-t6 c = search needs
+
+add-t7 : tie.Need-add-t7
+add-t7 c = search needs
+
+returns : tie.Need-returns
+unfolding placesOf slotCountsAt arrivalsAt totalOf
+returns c = cc
+
+pub places-spec : {M : Type 1} → statement M
+places-spec =
+    tie.close
+    (tie.spec
+    capacity-count-requires
+    mul-counts
+    add-counts
+    cast-at
+    mul-at
+    add-at
+    cast-t5
+    mul-t6
+    add-t7
+    returns)

@@ -1,0 +1,16 @@
+-- `trace::layout::side_allowed` meets its contract.
+-- Assumes nothing.
+use borrow.Author.Needs.{needs}
+use Rattle.trace.specs.Header.{sideAllowed}
+use Rattle.trace.proofs.layout.side_allowed.Statement.{statement}
+use Rattle.trace.proofs.layout.side_allowed.Tie as tie
+
+both-requires : tie.Need-both-requires
+both-requires c κs = search needs
+
+returns : tie.Need-returns
+unfolding sideAllowed
+returns c = c .both .ensures
+
+pub side-allowed-spec : {M : Type 1} → statement M
+side-allowed-spec = tie.close (tie.spec both-requires returns)

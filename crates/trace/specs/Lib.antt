@@ -1,0 +1,4 @@
+pub mod Header
+pub mod Tables
+pub mod Reading
+pub mod Slots
