@@ -3,3 +3,4 @@ pub mod Digits
 pub mod Lists
 pub mod Order
 pub mod Refusal
+pub mod Sets

@@ -59,7 +59,7 @@ laid-refused zero h e = absurd (e refl)
 laid-refused (suc n) h e = refl
 
 -- no file is longer than 17,480 bytes, and the tables' places lie within it
-pub places-small : (h : Header) → headerRefusal h ≡ 0 → (arrivalsAt h ≤ 9288) × (totalOf h ≤ 17480)
+pub places-small : (h : Header) → headerRefusal h ≡ 0 → (slotCountsAt h ≤ 1096) × (arrivalsAt h ≤ 9288) × (totalOf h ≤ 17480)
 unfolding totalOf arrivalsAt slotCountsAt capacityCount
 places-small h e =
     let a = allowed h e in

@@ -6,7 +6,7 @@ mod tables; // tables.rt: what the three tables may hold
 ghost use mathlib.Core.Path.{_≡_};
 ghost use mathlib.Core.Bool.{true};
 ghost use Rattle.trace.specs.Header.{headerRefusal, placesOf, laidOut};
-ghost use Rattle.trace.specs.Tables.{tablesRefusal};
+ghost use Rattle.trace.specs.Tables.{capacityAllowed, tablesRefusal};
 ghost use Rattle.trace.specs.Reading.{capacity, slotCount, portByte, placesRight, bodyRefusal, verdict};
 ghost use Rattle.trace.specs.Slots.{arrivalOf, partFrom, slotPart, standing};
 
@@ -52,6 +52,13 @@ pub enum Standing {
     Arrivals,
     NoMore,
     Refused(u32),
+}
+
+// Whether a capacity is allowed: 1 to 1,024.
+pub fn capacity_allowed(c: u32) -> bool
+    ensures { λ r. ⌜ r ≡ capacityAllowed c ⌝ }
+{
+    tables::capacity_allowed(c)
 }
 
 pub fn lay_out(header: Header) -> LaidOut

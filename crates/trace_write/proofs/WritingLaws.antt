@@ -1,0 +1,115 @@
+-- The parts of a written file one after the other, how long it is, and the ways out of the writer's chain of refusals.
+-- Assumes nothing.
+use Prim.Native.Nat.{ℕ, zero, suc, _+_, _*_, _≤_}
+use native.Mathlib.Nat.{zero-add}
+use native.Mathlib.Omega.{arith}
+use mathlib.Core.Path.{_≡_, refl, sym, ap, _∙_}
+use mathlib.Core.List.{List, [], _∷_, _++_}
+use mathlib.Core.Bool.{true}
+use lib.ListN.{length, drop, length-append}
+use lib.Dec.{leb, eqb}
+use lib.Seq.{sets}
+use borrow.Author.Tests.{eqb-true, leb-true}
+use Rattle.base.specs.Digits.{spell}
+use Rattle.base.proofs.Below.{both-true}
+use Rattle.base.proofs.Digits.{length-spell}
+use Rattle.base.proofs.Refusal.{unless-zero, chain-zero, stops, goes-on}
+use Rattle.base.proofs.Sets.{sets-then, sets-start}
+use Rattle.trace.specs.declared.Header.{Header}
+use Rattle.trace.specs.declared.Places.{Places}
+use Rattle.trace.specs.Header.{headerRefusal, capacityCount, slotCountsAt, arrivalsAt, totalOf, placesOf}
+use Rattle.trace_write.specs.declared.Written.the-variants.{Filled, Refused}
+use Rattle.trace_write.specs.Writing.{lengthsRight, lentRefusal, bodyRefusal, writing, headerWords, file, answerOf, outOf, written, writtenOut}
+
+-- each table is as long as the header makes it
+pub record Lengths (h : Header) (caps counts ports : List ℕ) : Type 0 where
+  pub of-caps : length caps ≡ capacityCount h
+  pub of-counts : length counts ≡ h .slots
+  pub of-ports : length ports ≡ 2 * h .arrivals
+
+pub lengths : (h : Header) (caps counts ports : List ℕ) → lengthsRight h caps counts ports ≡ true → Lengths h caps counts ports
+unfolding lengthsRight
+lengths h caps counts ports e =
+    let a = both-true _ _ e in
+    let b = both-true _ _ (a .1) in
+    record { of-caps = eqb-true _ _ (a .0); of-counts = eqb-true _ _ (b .0); of-ports = eqb-true _ _ (b .1) }
+
+-- what nothing refused is known to have
+pub record Writable (h : Header) (caps counts ports : List ℕ) (room : ℕ) : Type 0 where
+  pub header : headerRefusal h ≡ 0
+  pub long : Lengths h caps counts ports
+  pub lent : lentRefusal h caps counts ports ≡ 0
+  pub fits : totalOf h ≤ room
+
+module _ (h : Header) (caps counts ports : List ℕ) where
+  pub writable : (room : ℕ) → writing h caps counts ports room ≡ 0 → Writable h caps counts ports room
+  unfolding writing bodyRefusal
+  writable room e =
+      let two = chain-zero _ _ e in
+      let seventeen = chain-zero _ _ (two .1) in
+      let nine = chain-zero _ _ (seventeen .1) in
+      record {
+        header = two .0;
+        long = lengths h caps counts ports (unless-zero _ 16 (seventeen .0));
+        lent = nine .0;
+        fits = leb-true _ _ (unless-zero _ 17 (nine .1));
+      }
+
+  length-header : length (spell 4 (headerWords h)) ≡ 40
+  unfolding headerWords
+  length-header = length-spell 4 (headerWords h)
+
+  module _ (l : Lengths h caps counts ports) where
+    pub length-file : length (file h caps counts ports) ≡ totalOf h
+    unfolding file totalOf arrivalsAt slotCountsAt
+    length-file =
+        let a = length-append (spell 4 (headerWords h)) (spell 2 caps ++ (spell 2 counts ++ ports)) in
+        let b = length-append (spell 2 caps) (spell 2 counts ++ ports) in
+        let c = length-append (spell 2 counts) ports in
+        omega (arith, length-header, length-spell 2 caps, length-spell 2 counts)
+
+    -- the stores of the four parts, one part after the other
+    pub file-stored : (out : List ℕ) → sets (sets (sets (sets out 0 (spell 4 (headerWords h))) 40 (spell 2 caps)) (slotCountsAt h) (spell 2 counts)) (arrivalsAt h) ports ≡ sets out 0 (file h caps counts ports)
+    unfolding file
+    file-stored out =
+        let a : 0 + length (spell 4 (headerWords h)) ≡ 40 = omega (arith, length-header) in
+        let b : 40 + length (spell 2 caps) ≡ slotCountsAt h = unfold slotCountsAt in omega (arith, length-spell 2 caps) in
+        let c : slotCountsAt h + length (spell 2 counts) ≡ arrivalsAt h = unfold arrivalsAt in omega (arith, length-spell 2 counts) in
+        sym (rw (sets-then, sets-then, sets-then, a, b, c))
+
+    -- the same of what the stores left, part by part
+    pub parts-stored : (p : Places) (out a b c d : List ℕ) → p ≡ placesOf h → a ≡ sets out 0 (spell 4 (headerWords h)) → b ≡ sets a 40 (spell 2 caps) → c ≡ sets b (p .counts) (spell 2 counts) → d ≡ sets c (p .arrivals) ports → d ≡ sets out 0 (file h caps counts ports)
+    unfolding placesOf
+    parts-stored p out a b c d e ea eb ec ed =
+        let counts-at = ap (λ (q : Places). q .counts) e in
+        let arrivals-at = ap (λ (q : Places). q .arrivals) e in
+        rw (ed, ec, eb, ea, counts-at, arrivals-at) (file-stored out)
+
+  pub lengths-passed : (room : ℕ) → bodyRefusal h caps counts ports room ≡ 0 → lengthsRight h caps counts ports ≡ true
+  unfolding bodyRefusal
+  lengths-passed room e = unless-zero _ 16 (chain-zero _ _ e .0)
+
+  -- the ways out
+  refused-so : (n : ℕ) (out : List ℕ) → writing h caps counts ports (length out) ≡ n → (n ≡ 0 → ⊥) → (Refused n ≡ written h caps counts ports out) × (out ≡ writtenOut h caps counts ports out)
+  unfolding written writtenOut
+  refused-so n out e ne = rw e (go n ne)
+    where
+      go : (n : ℕ) → (n ≡ 0 → ⊥) → (Refused n ≡ answerOf n h) × (out ≡ outOf n (file h caps counts ports) out)
+      go zero ne = absurd (ne refl)
+      go (suc n) ne = unfold answerOf outOf in (refl, refl)
+
+  pub header-refused : (n : ℕ) (out : List ℕ) → headerRefusal h ≡ n → (n ≡ 0 → ⊥) → (Refused n ≡ written h caps counts ports out) × (out ≡ writtenOut h caps counts ports out)
+  unfolding writing
+  header-refused n out e ne = refused-so n out (stops _ _ (λ z. ne (sym e ∙ z)) ∙ e) ne
+
+  pub body-refused : (n : ℕ) (out : List ℕ) → headerRefusal h ≡ 0 → n ≡ bodyRefusal h caps counts ports (length out) → (n ≡ 0 → ⊥) → (Refused n ≡ written h caps counts ports out) × (out ≡ writtenOut h caps counts ports out)
+  unfolding writing
+  body-refused n out z e ne = refused-so n out (goes-on _ _ z ∙ sym e) ne
+
+  pub filled : (out : List ℕ) → headerRefusal h ≡ 0 → bodyRefusal h caps counts ports (length out) ≡ 0 → (Filled (totalOf h) ≡ written h caps counts ports out) × (sets out 0 (file h caps counts ports) ≡ writtenOut h caps counts ports out)
+  unfolding written writtenOut answerOf outOf writing
+  filled out z e =
+      let none : writing h caps counts ports (length out) ≡ 0 = goes-on _ _ z ∙ e in
+      let w = writable (length out) none in
+      let n : length (file h caps counts ports) ≤ length out = omega (arith, length-file (w .long), w .fits) in
+      rw none (refl, sets-start out (file h caps counts ports) n)

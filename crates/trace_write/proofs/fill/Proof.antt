@@ -1,0 +1,58 @@
+-- `trace_write::fill` meets its contract: the four parts stand one after the other.
+-- Assumes nothing.
+use borrow.Author.Needs.{needs}
+use native.Mathlib.Omega.{arith}
+use mathlib.Core.Path.{_≡_, refl, sym, _∙_, ap}
+use denote.Ref.{now}
+use Rattle.trace.specs.declared.Places.{Places}
+use Prim.Native.Nat.{_≤_}
+use lib.ListN.{length}
+use Rattle.trace.specs.Header.{placesOf, slotCountsAt}
+use Rattle.trace.proofs.HeaderLaws.{allowed, places-small}
+use Rattle.trace_write.proofs.WritingLaws.{lengths, parts-stored}
+use Rattle.trace_write.proofs.fill.Statement.{statement}
+use Rattle.trace_write.proofs.fill.Tie as tie
+
+header-requires : tie.Need-header-requires
+header-requires c κs = search needs
+
+table-requires : tie.Need-table-requires
+unfolding slotCountsAt
+table-requires c κs = omega (arith, lengths (c .before .before .before .before .before .before .before .before .before .args .header) (now (c .before .before .before .before .before .before .before .before .before .args .capacities)) (now (c .before .before .before .before .before .before .before .before .before .args .counts)) (now (c .before .before .before .before .before .before .before .before .before .args .ports)) (c .before .before .before .before .before .before .before .before .before .pre .2), places-small (c .before .before .before .before .before .before .before .before .before .args .header) (c .before .before .before .before .before .before .before .before .before .pre .0))
+
+cast-table : tie.Need-cast-table
+unfolding placesOf
+cast-table c = omega (arith, ap (λ (q : Places). q .counts) (c .before .before .before .before .before .before .before .before .before .before .before .before .before .before .pre .1), places-small (c .before .before .before .before .before .before .before .before .before .before .before .before .before .before .args .header) (c .before .before .before .before .before .before .before .before .before .before .before .before .before .before .pre .0))
+
+table-requires-2 : tie.Need-table-requires-2
+table-requires-2 c κs = let l = lengths (c .before .before .before .before .before .before .before .before .before .before .before .before .before .before .args .header) (now (c .before .before .before .before .before .before .before .before .before .before .before .before .before .before .args .capacities)) (now (c .before .before .before .before .before .before .before .before .before .before .before .before .before .before .args .counts)) (now (c .before .before .before .before .before .before .before .before .before .before .before .before .before .before .args .ports)) (c .before .before .before .before .before .before .before .before .before .before .before .before .before .before .pre .2) in
+    let n : length (now (c .before .before .before .before .before .before .before .before .before .before .before .before .before .before .args .counts)) ≤ 65536 = omega (arith, l .of-counts, allowed (c .before .before .before .before .before .before .before .before .before .before .before .before .before .before .args .header) (c .before .before .before .before .before .before .before .before .before .before .before .before .before .before .pre .0)) in
+    n
+
+cast-bytes : tie.Need-cast-bytes
+unfolding placesOf
+cast-bytes c = omega (arith, ap (λ (q : Places). q .arrivals) (c .before .before .before .before .before .before .before .before .before .before .before .before .before .before .before .before .before .before .before .pre .1), places-small (c .before .before .before .before .before .before .before .before .before .before .before .before .before .before .before .before .before .before .before .args .header) (c .before .before .before .before .before .before .before .before .before .before .before .before .before .before .before .before .before .before .before .pre .0))
+
+bytes-requires : tie.Need-bytes-requires
+bytes-requires c κs = search needs
+
+same-length : tie.Need-same-length
+same-length c = search needs
+
+returns : tie.Need-returns
+returns c = let a = c .before .before .before .before .before .before .before .before .before .before .before .before .before .before .before .before .before .before .before .before .before .before .args in
+    parts-stored (a .header) (now (a .capacities)) (now (a .counts)) (now (a .ports)) (lengths (c .before .before .before .before .before .before .before .before .before .before .before .before .before .before .before .before .before .before .before .before .before .before .args .header) (now (c .before .before .before .before .before .before .before .before .before .before .before .before .before .before .before .before .before .before .before .before .before .before .args .capacities)) (now (c .before .before .before .before .before .before .before .before .before .before .before .before .before .before .before .before .before .before .before .before .before .before .args .counts)) (now (c .before .before .before .before .before .before .before .before .before .before .before .before .before .before .before .before .before .before .before .before .before .before .args .ports)) (c .before .before .before .before .before .before .before .before .before .before .before .before .before .before .before .before .before .before .before .before .before .before .pre .2)) (a .places) (now (a .out)) _ _ _ _ (c .before .before .before .before .before .before .before .before .before .before .before .before .before .before .before .before .before .before .before .before .before .before .pre .1)
+    (c .before .before .before .before .before .before .before .before .before .before .before .before .before .before .before .before .header .ensures) (c .before .before .before .before .before .before .before .before .before .before .before .before .table .ensures) (c .before .before .before .before .before .before .before .table2 .ensures) (c .before .before .bytes .ensures)
+
+pub fill-spec : {M : Type 1} → statement M
+fill-spec =
+    tie.close
+    (tie.spec
+    header-requires
+    table-requires
+    cast-table
+    table-requires-2
+    cast-bytes
+    bytes-requires
+    same-length
+    returns)

@@ -1,0 +1,68 @@
+-- `trace_write::lent::tables_refusal` meets its contract.
+-- Assumes nothing.
+use borrow.Author.Needs.{needs}
+use native.Mathlib.Omega.{arith}
+use mathlib.Core.Path.{_≡_, refl, sym, _∙_, ap}
+use denote.Ref.{now}
+use Rattle.trace.specs.declared.Places.{Places}
+use Rattle.trace.specs.Header.{placesOf}
+use Rattle.trace.specs.Tables.{tablesRefusal, capacitiesAllowed, countsAddUp, portsBelow}
+use Rattle.trace.proofs.HeaderLaws.{allowed}
+use Rattle.trace_write.specs.Writing.{lentRefusal}
+use Rattle.trace_write.proofs.lent.tables_refusal.Statement.{statement}
+use Rattle.trace_write.proofs.lent.tables_refusal.Tie as tie
+
+cast-slots : tie.Need-cast-slots
+cast-slots c = omega (arith, allowed (c .before .before .before .before .args .header) (c .before .before .before .before .pre .0))
+
+cast-arrivals : tie.Need-cast-arrivals
+cast-arrivals c = search needs
+
+capacities-allowed-requires : tie.Need-capacities-allowed-requires
+capacities-allowed-requires c κs = search needs
+
+unless-requires : tie.Need-unless-requires
+unless-requires c κs = search needs
+
+sum-requires : tie.Need-sum-requires
+sum-requires c κs = search needs
+
+unless-requires-2 : tie.Need-unless-requires-2
+unless-requires-2 c κs = search needs
+
+mul-ports-below : tie.Need-mul-ports-below
+mul-ports-below c = search needs
+
+ports-below-requires : tie.Need-ports-below-requires
+ports-below-requires c κs = search needs
+
+unless-requires-3 : tie.Need-unless-requires-3
+unless-requires-3 c κs = search needs
+
+first-requires : tie.Need-first-requires
+first-requires c κs = search needs
+
+first-requires-2 : tie.Need-first-requires-2
+first-requires-2 c κs = search needs
+
+returns : tie.Need-returns
+unfolding lentRefusal tablesRefusal capacitiesAllowed countsAddUp portsBelow placesOf
+returns c = let p = ap (λ (q : Places). q .capacities) (c .before .before .before .before .before .before .before .before .before .before .before .before .before .pre .1) in
+    cc
+
+pub tables-refusal-spec : {M : Type 1} → statement M
+tables-refusal-spec =
+    tie.close
+    (tie.spec
+    cast-slots
+    cast-arrivals
+    capacities-allowed-requires
+    unless-requires
+    sum-requires
+    unless-requires-2
+    mul-ports-below
+    ports-below-requires
+    unless-requires-3
+    first-requires
+    first-requires-2
+    returns)

@@ -1,0 +1,53 @@
+-- `trace_write::put::header` meets its contract.
+-- Assumes nothing.
+use borrow.Author.Needs.{needs}
+use native.Mathlib.Omega.{arith}
+use mathlib.Core.Path.{_≡_, refl, sym, _∙_, ap}
+use denote.Ref.{now}
+use Rattle.trace.specs.declared.Places.{Places}
+use Rattle.trace.specs.Header.{placesOf}
+use Rattle.trace.proofs.HeaderLaws.{places-small}
+use Rattle.trace_write.specs.Writing.{headerWords}
+use Rattle.trace_write.proofs.put.header.Statement.{statement}
+use Rattle.trace_write.proofs.put.header.Tie as tie
+
+cast-counts : tie.Need-cast-counts
+unfolding placesOf
+cast-counts c = omega (arith, places-small (c .before .before .args .h) (c .before .before .pre .0), ap (λ (q : Places). q .counts) (c .before .before .pre .1))
+
+cast-arrivals : tie.Need-cast-arrivals
+unfolding placesOf
+cast-arrivals c = omega (arith, places-small (c .before .before .before .args .h) (c .before .before .before .pre .0), ap (λ (q : Places). q .arrivals) (c .before .before .before .pre .1))
+
+cast-total : tie.Need-cast-total
+unfolding placesOf
+cast-total c = omega (arith, places-small (c .before .before .before .before .args .h) (c .before .before .before .before .pre .0), ap (λ (q : Places). q .total) (c .before .before .before .before .pre .1))
+
+slice-aggregate-words : tie.Need-slice-aggregate-words
+slice-aggregate-words c = search needs
+
+words-requires : tie.Need-words-requires
+words-requires c κs = search needs
+
+same-length : tie.Need-same-length
+same-length c = search needs
+
+returns : tie.Need-returns
+unfolding headerWords placesOf
+returns c = let e = c .before .before .before .before .before .before .before .before .before .pre .1 in
+    let p = ap (λ (q : Places). q .counts) e in
+    let q = ap (λ (q : Places). q .arrivals) e in
+    let r = ap (λ (q : Places). q .total) e in
+    c .before .before .words .ensures ∙ (cc)
+
+pub header-spec : {M : Type 1} → statement M
+header-spec =
+    tie.close
+    (tie.spec
+    cast-counts
+    cast-arrivals
+    cast-total
+    slice-aggregate-words
+    words-requires
+    same-length
+    returns)
