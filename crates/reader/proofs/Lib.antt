@@ -1,0 +1,2 @@
+pub mod RequestsLaws
+pub mod Unique
