@@ -1,5 +1,6 @@
 pub mod Below
 pub mod Digits
+pub mod Listed
 pub mod Lists
 pub mod Order
 pub mod Refusal

@@ -1,0 +1,9 @@
+pub mod Queues
+pub mod Events
+pub mod Turn
+pub mod Log
+pub mod Flow
+pub mod Cioq
+pub mod Crossbar
+pub mod Slot
+pub mod Lent
