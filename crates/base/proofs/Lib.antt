@@ -1,7 +1,10 @@
 pub mod Below
+pub mod Cases
 pub mod Digits
 pub mod Listed
 pub mod Lists
+pub mod Lowest
 pub mod Order
 pub mod Refusal
 pub mod Sets
+pub mod Sums

@@ -34,5 +34,5 @@ lengths q inlen outlen crosslen =
       crosscap = q .crosscap;
       inlen = inlen;
       outlen = outlen;
-      crosslen = crosslen
+      crosslen = crosslen;
     }

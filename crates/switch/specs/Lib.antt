@@ -1,0 +1,5 @@
+pub mod Switch
+pub mod Allowed
+pub mod Steps
+pub mod Draining
+pub mod Making
