@@ -7,4 +7,5 @@ pub mod Lowest
 pub mod Order
 pub mod Refusal
 pub mod Sets
+pub mod Spelled
 pub mod Sums

@@ -1,13 +1,16 @@
--- Parts of a list whose ends are kept within it, as the code keeps them, are the parts that `take` and `drop` name.
+-- Parts of a list whose ends are kept within it, as the code keeps them, are the parts that `take` and `drop` name; and what stands
+-- from a place on, taken apart and put together again.
 -- Assumes nothing.
-use Prim.Native.Nat.{ℕ, _+_, _-_, _≤_, _<_, min}
+use Prim.Native.Nat.{ℕ, suc, _+_, _-_, _≤_, _<_, min}
+use native.Mathlib.Nat.{add-zero}
+use native.Mathlib.Numerals.{add-one}
 use Rattle.base.proofs.Order.{le-or-lt}
 use native.Mathlib.Omega.{arith}
 use mathlib.Core.Path.{_≡_, refl, sym, ap, _∙_}
 use mathlib.Core.Logic.{⊎-elim}
-use mathlib.Core.List.{List, []}
-use lib.ListN.{length, getD, take, drop, length-drop, drop-of-length-le, List·getD-eq-default}
-use lib.Seq.{take-all, take-nil}
+use mathlib.Core.List.{List, [], _∷_, _++_}
+use lib.ListN.{length, getD, take, drop, length-drop, take-append-drop, drop-of-length-le, List·getD-eq-default}
+use lib.Seq.{take-all, take-nil, getD-drop, drop-drop}
 
 -- whoever takes a whole list takes the same
 take-whole : (l : List ℕ) (a b : ℕ) → length l ≤ a → length l ≤ b → take a l ≡ take b l
@@ -40,3 +43,14 @@ module _ (s : List ℕ) (p : ℕ) where
       let n : length (drop p s) ≡ length s - p = length-drop p s in
       take-whole (drop p s) (min (min p (length s) + m) (length s) - min p (length s)) m (omega arith) (omega arith))
       (le-or-lt (p + m) (length s)))
+
+-- what stands from p on begins with the element at p, and what stands behind that follows
+pub drop-first : (s : List ℕ) (p a : ℕ) (r : List ℕ) → drop p s ≡ a ∷ r → (getD s p 0 ≡ a) × (drop (suc p) s ≡ r)
+drop-first s p a r e =
+    let first : getD s (p + 0) 0 ≡ a = sym (getD-drop p s 0 0) ∙ ap (λ (l : List ℕ). getD l 0 0) e in
+    let rest : drop (p + 1) s ≡ r = sym (drop-drop 1 p s) ∙ ap (λ (l : List ℕ). drop 1 l) e in
+    (rw add-zero at first, rw add-one at rest)
+
+-- what stands from p on is its first m and what stands behind those
+pub part-then-rest : (s : List ℕ) (p m : ℕ) → take m (drop p s) ++ drop (p + m) s ≡ drop p s
+part-then-rest s p m = ap (λ (l : List ℕ). take m (drop p s) ++ l) (sym (drop-drop m p s)) ∙ take-append-drop m (drop p s)

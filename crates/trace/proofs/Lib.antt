@@ -1,3 +1,5 @@
+pub mod Accepting
 pub mod HeaderLaws
 pub mod ReadingLaws
 pub mod SlotsLaws
+pub mod TablesLaws

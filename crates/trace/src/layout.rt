@@ -6,14 +6,14 @@ ghost use mathlib.Core.Path.{_≡_};
 ghost use Prim.Native.Nat.{_≤_};
 ghost use Rattle.trace.specs.Header.{modelAllowed, sideAllowed, headerRefusal, capacityCount, placesOf, laidOut};
 
-fn model_allowed(m: u32) -> bool
+pub fn model_allowed(m: u32) -> bool
     ensures { λ r. ⌜ r ≡ modelAllowed m ⌝ }
 {
     m == 1 || m == 2
 }
 
 // Ports and speedup alike: 1 to 16.
-fn side_allowed(n: u32) -> bool
+pub fn side_allowed(n: u32) -> bool
     ensures { λ r. ⌜ r ≡ sideAllowed n ⌝ }
 {
     base::both(1 <= n, n <= 16)

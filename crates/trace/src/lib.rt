@@ -5,7 +5,7 @@ mod tables; // tables.rt: what the three tables may hold
 
 ghost use mathlib.Core.Path.{_≡_};
 ghost use mathlib.Core.Bool.{true};
-ghost use Rattle.trace.specs.Header.{headerRefusal, placesOf, laidOut};
+ghost use Rattle.trace.specs.Header.{modelAllowed, sideAllowed, headerRefusal, placesOf, laidOut};
 ghost use Rattle.trace.specs.Tables.{capacityAllowed, tablesRefusal};
 ghost use Rattle.trace.specs.Reading.{capacity, slotCount, portByte, placesRight, bodyRefusal, verdict};
 ghost use Rattle.trace.specs.Slots.{arrivalOf, partFrom, slotPart, standing};
@@ -52,6 +52,20 @@ pub enum Standing {
     Arrivals,
     NoMore,
     Refused(u32),
+}
+
+// Whether a model is allowed: 1 CIOQ, 2 buffered crossbar.
+pub fn model_allowed(m: u32) -> bool
+    ensures { λ r. ⌜ r ≡ modelAllowed m ⌝ }
+{
+    layout::model_allowed(m)
+}
+
+// Whether a number of ports, or a speedup, is allowed: 1 to 16.
+pub fn side_allowed(n: u32) -> bool
+    ensures { λ r. ⌜ r ≡ sideAllowed n ⌝ }
+{
+    layout::side_allowed(n)
 }
 
 // Whether a capacity is allowed: 1 to 1,024.

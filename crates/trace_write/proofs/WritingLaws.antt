@@ -5,15 +5,16 @@ use native.Mathlib.Nat.{zero-add}
 use native.Mathlib.Omega.{arith}
 use mathlib.Core.Path.{_≡_, refl, sym, ap, _∙_}
 use mathlib.Core.List.{List, [], _∷_, _++_}
-use mathlib.Core.Bool.{true}
+use mathlib.Core.Bool.{Bool, true, and-eq-true-iff}
 use lib.ListN.{length, drop, length-append}
 use lib.Dec.{leb, eqb}
 use lib.Seq.{sets}
-use borrow.Author.Tests.{eqb-true, leb-true}
+use borrow.Author.Tests.{eqb-true, leb-true, eq-eqb, le-leb}
 use Rattle.base.specs.Digits.{spell}
+use Rattle.base.specs.Refusal.{unless}
 use Rattle.base.proofs.Below.{both-true}
 use Rattle.base.proofs.Digits.{length-spell}
-use Rattle.base.proofs.Refusal.{unless-zero, chain-zero, stops, goes-on}
+use Rattle.base.proofs.Refusal.{unless-zero, chain-zero, stops, goes-on, passed}
 use Rattle.base.proofs.Sets.{sets-then, sets-start}
 use Rattle.trace.specs.declared.Header.{Header}
 use Rattle.trace.specs.declared.Places.{Places}
@@ -55,7 +56,23 @@ module _ (h : Header) (caps counts ports : List ℕ) where
         fits = leb-true _ _ (unless-zero _ 17 (nine .1));
       }
 
-  length-header : length (spell 4 (headerWords h)) ≡ 40
+  -- the other way round
+  pub none-refused : (room : ℕ) → Writable h caps counts ports room → writing h caps counts ports room ≡ 0
+  unfolding writing bodyRefusal lengthsRight unless
+  none-refused room w =
+      let long = w .long in
+      let right =
+      and-eq-true-iff _ _ .1 (
+        eq-eqb (length caps) (capacityCount h) (long .of-caps),
+        and-eq-true-iff _ _ .1
+            (eq-eqb (length counts) (h .slots) (long .of-counts), eq-eqb (length ports) (2 * h .arrivals) (long .of-ports)),
+      ) in
+      goes-on _ _ (w .header)
+      ∙ passed _ 17 _ right
+      ∙ goes-on _ _ (w .lent)
+      ∙ ap (λ (b : Bool). unless b 18) (le-leb (totalOf h) room (w .fits))
+
+  pub length-header : length (spell 4 (headerWords h)) ≡ 40
   unfolding headerWords
   length-header = length-spell 4 (headerWords h)
 
