@@ -1,0 +1,3 @@
+pub mod AllowedLaws
+pub mod MakingLaws
+pub mod StepsLaws
