@@ -1,0 +1,14 @@
+pub mod Balance
+pub mod CioqLaws
+pub mod CrossbarLaws
+pub mod EventsLaws
+pub mod Filling
+pub mod Flows
+pub mod GreedyLaws
+pub mod IdleLaws
+pub mod Matchings
+pub mod ProgressLaws
+pub mod QueueLengths
+pub mod SendingsLaws
+pub mod SlotLaws
+pub mod TurnLaws
