@@ -1,1 +1,2 @@
 pub mod LossLaws
+pub mod TakingLaws

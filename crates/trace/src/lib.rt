@@ -7,7 +7,7 @@ ghost use mathlib.Core.Path.{_≡_};
 ghost use mathlib.Core.Bool.{true};
 ghost use Rattle.trace.specs.Header.{modelAllowed, sideAllowed, headerRefusal, placesOf, laidOut};
 ghost use Rattle.trace.specs.Tables.{capacityAllowed, tablesRefusal};
-ghost use Rattle.trace.specs.Reading.{capacity, slotCount, portByte, placesRight, bodyRefusal, verdict};
+ghost use Rattle.trace.specs.Reading.{headerOf, capacity, slotCount, portByte, placesRight, bodyRefusal, verdict};
 ghost use Rattle.trace.specs.Slots.{arrivalOf, partFrom, slotPart, standing};
 
 // The header's first six words.
@@ -129,6 +129,13 @@ pub fn examine(trace: &[u8]) -> Verdict
             Verdict::Accepted(header)
         }
     }
+}
+
+// The header's first six words, allowed or not.
+pub fn head(trace: &[u8]) -> Header
+    ensures { λ r. ⌜ r ≡ headerOf (now (trace .entry)) ⌝ }
+{
+    numbers::header(trace)
 }
 
 // Entry k of the capacities. This question and the next three judge nothing: past a table's end they answer what stands there, and

@@ -1,0 +1,4 @@
+pub mod LeftLaws
+pub mod CioqLaws
+pub mod VisitLaws
+pub mod Unique
