@@ -1,3 +1,4 @@
 pub mod LogLaws
 pub mod QueuesLaws
+pub mod TurnPlaces
 pub mod WrapLaws

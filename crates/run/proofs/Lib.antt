@@ -1,2 +1,3 @@
+pub mod FoldLaws
 pub mod LossLaws
 pub mod TakingLaws

@@ -3,11 +3,11 @@ use crate::Switch;
 use queues::Queues;
 ghost use mathlib.Core.Path.{_≡_};
 ghost use mathlib.Core.Bool.{_&&_};
-ghost use Prim.Native.Nat.{_≤_, _<_, _+_, _*_};
-ghost use lib.ListN.{length, getD};
+ghost use Prim.Native.Nat.{_<_, _+_};
+ghost use lib.ListN.{getD};
 ghost use lib.Dec.{ltb, eqb};
 ghost use Rattle.base.specs.Below.{allBelow};
-ghost use Rattle.switch.specs.Switch.{packets, heldIn, heldOut, heldCross, heldAll};
+ghost use Rattle.switch.specs.Switch.{heldIn, heldOut, heldCross, heldAll};
 ghost use Rattle.switch.specs.Allowed.{usedPair, queueAllowed, queuesAllowed, countsAgree, switchAllowed};
 
 // Whether N ports use place k of those for pairs.
@@ -68,20 +68,6 @@ fn queues_allowed(model: u32, ports: u32, q: Queues) -> bool
     base::both(inputs, base::both(outputs, crosspoints))
 }
 
-// The packets in the queues of one kind.
-fn packets_in(l: &[u32]) -> u64
-    requires { ⌜ length (now l) ≤ 256 ⌝ }
-    ensures { λ r. ⌜ (r ≡ packets (now (l .entry)) (length (now (l .entry)))) × (r ≤ 1099511627776) ⌝ }
-{
-    let mut sum: u64 = 0;
-    let mut k: usize = 0;
-    while k < l.len() {
-        sum += l[k] as u64;
-        k += 1;
-    }
-    sum
-}
-
 // What the three kinds of queues hold.
 pub struct Packets {
     pub inputs: u64,
@@ -91,15 +77,15 @@ pub struct Packets {
 
 pub fn holds(q: Queues) -> Packets
     ensures { λ r. ⌜ (r .inputs ≡ heldIn q) × (r .outputs ≡ heldOut q) × (r .crosspoints ≡ heldCross q) ⌝ }
-    ensures { λ r. ⌜ (r .inputs ≤ 1099511627776) × (r .outputs ≤ 1099511627776) × (r .crosspoints ≤ 1099511627776) ⌝ }
+    ensures { λ r. ⌜ (r .inputs < 281474976710656) × (r .outputs < 281474976710656) × (r .crosspoints < 281474976710656) ⌝ }
 {
     let inlen = q.inlen;
     let outlen = q.outlen;
     let crosslen = q.crosslen;
     Packets {
-        inputs: packets_in(&inlen),
-        outputs: packets_in(&outlen),
-        crosspoints: packets_in(&crosslen),
+        inputs: queues::packets(&inlen, 256),
+        outputs: queues::packets(&outlen, 16),
+        crosspoints: queues::packets(&crosslen, 256),
     }
 }
 
@@ -111,7 +97,7 @@ fn sums_agree(
     sent: u32,
     held: Packets,
 ) -> bool
-    requires { ⌜ (held .inputs ≤ 1099511627776) × (held .outputs ≤ 1099511627776) × (held .crosspoints ≤ 1099511627776) ⌝ }
+    requires { ⌜ (held .inputs < 281474976710656) × (held .outputs < 281474976710656) × (held .crosspoints < 281474976710656) ⌝ }
     ensures { λ r. ⌜ r ≡ (eqb arrived (dropped + sent + (held .inputs + held .outputs + held .crosspoints)) && (eqb crossed (sent + held .outputs + held .crosspoints) && eqb outmoved (sent + held .outputs))) ⌝ }
 {
     let all = held.inputs + held.outputs + held.crosspoints;
