@@ -22,9 +22,9 @@ module _ (order ports slot : ℕ) (few : ports ≤ 16) where
       let n : min ports 16 ≡ ports = omega arith in
       ap (λ (m : ℕ). take m places) n
       ∙ sym
-        (listed-is (λ k. (firstOf (rotates order) ports slot + k) % ports) ports (take ports places) (length-take-le ports places (omega arith))
-        (λ k h.
-          sym
-          (getD-take ports places k 0 h
-          ∙ listed-at (λ k. cond (ltb k ports) ((firstOf (rotates order) ports slot + k) % ports) 0) 16 k (omega arith)
-          ∙ rw (lt-ltb k ports h))))
+      (listed-is (λ k. (firstOf (rotates order) ports slot + k) % ports) ports (take ports places) (length-take-le ports places (omega arith))
+      (λ k h.
+      sym
+      (getD-take ports places k 0 h
+      ∙ listed-at (λ k. cond (ltb k ports) ((firstOf (rotates order) ports slot + k) % ports) 0) 16 k (omega arith)
+      ∙ rw (lt-ltb k ports h))))

@@ -36,7 +36,7 @@ unfolding advanced after
 advanced-then s d e t u =
     let k : ℕ = outmovedKind (hasCrosspoints (s .model)) in
     let arrived : s .arrived + (ofKind 1 (d .events) + ofKind 2 (d .events)) + (ofKind 1 (e .events) + ofKind 2 (e .events)) ≡ s .arrived + (ofKind 1 (d .events ++ e .events) + ofKind 2 (d .events ++ e .events)) =
-        omega (arith, of-both 1 (d .events) (e .events), of-both 2 (d .events) (e .events)) in
+    omega (arith, of-both 1 (d .events) (e .events), of-both 2 (d .events) (e .events)) in
     rw (arrived, twice (s .dropped) 2 (d .events) (e .events), twice (s .crossed) 3 (d .events) (e .events), twice (s .outmoved) k (d .events) (e .events), twice (s .sent) 5 (d .events) (e .events))
 
 pub grown-then : (h : History) (d e : Done) (t u : ℕ) → grown (grown h d t) e u ≡ grown h (after d e) u
@@ -95,11 +95,18 @@ module _ (s : List ℕ) (accepted : reading s ≡ 0) (t : ℕ) (below : t < head
       let o : 2 * (before s t + k) + 1 ≡ 2 * before s t + (2 * k + 1) = omega arith in
       (ap (portByte s) i ∙ sym (part-byte (2 * k) (omega arith)), ap (portByte s) o ∙ sym (part-byte (2 * k + 1) (omega arith)))
 
-  pub arrivals-takings : (h : History) (k : ℕ) → k ≤ slotCount s t → arrivals s h (before s t) k ≡ grown h (takings (h .switch .queues) (h .switch .slot) (partFrom s t (before s t)) k) (h .switch .slot)
+  takings-more : (h : History) (k : ℕ) → k < slotCount s t → arrivals s h (before s t) k ≡ grown h (takings (h .switch .queues) (h .switch .slot) (partFrom s t (before s t)) k) (h .switch .slot) → arrivals s h (before s t) (suc k) ≡ grown h (takings (h .switch .queues) (h .switch .slot) (partFrom s t (before s t)) (suc k)) (h .switch .slot)
   unfolding arrivals takings
-  arrivals-takings h zero le = sym (nothing-grown h)
-  arrivals-takings h (suc k) le =
+  takings-more h k less e =
       let part : List ℕ = partFrom s t (before s t) in
-      let d : Done = takings (h .switch .queues) (h .switch .slot) part k in
-      let p = part-arrival k (omega arith) in
-      rw (arrivals-takings h k (omega arith)) (one-more h d (arrivalOf s (before s t + k)) (getD part (2 * k) 0) (getD part (2 * k + 1) 0) (p .0) (p .1))
+      let p = part-arrival k less in
+      ap (λ (h : History). arriving h (arrivalOf s (before s t + k))) e
+      ∙ one-more h (takings (h .switch .queues) (h .switch .slot) part k) (arrivalOf s (before s t + k)) (getD part (2 * k) 0) (getD part (2 * k + 1) 0) (p .0) (p .1)
+
+  nothing-yet : (h : History) → arrivals s h (before s t) 0 ≡ grown h (takings (h .switch .queues) (h .switch .slot) (partFrom s t (before s t)) 0) (h .switch .slot)
+  unfolding arrivals takings
+  nothing-yet h = sym (nothing-grown h)
+
+  pub arrivals-takings : (h : History) (k : ℕ) → k ≤ slotCount s t → arrivals s h (before s t) k ≡ grown h (takings (h .switch .queues) (h .switch .slot) (partFrom s t (before s t)) k) (h .switch .slot)
+  arrivals-takings h zero le = nothing-yet h
+  arrivals-takings h (suc k) le = takings-more h k le (arrivals-takings h k (omega arith))

@@ -1,3 +1,9 @@
 pub mod AllowedLaws
+pub mod ClosingLaws
+pub mod DrainLaws
+pub mod FreshLaws
+pub mod KeepsLaws
 pub mod MakingLaws
+pub mod QueuesKept
+pub mod SettlingLaws
 pub mod StepsLaws

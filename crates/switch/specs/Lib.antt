@@ -3,3 +3,4 @@ pub mod Allowed
 pub mod Steps
 pub mod Draining
 pub mod Making
+pub mod Settling

@@ -4,10 +4,19 @@ mod make; // make.rt: the capacities of a new switch, out of a trace
 
 use queues::Queues;
 ghost use mathlib.Core.Path.{_≡_};
-ghost use Prim.Native.Nat.{_<_};
+ghost use mathlib.Core.Bool.{true};
+ghost use Prim.Native.Nat.{_+_, _<_, _≤_};
 ghost use lib.ListN.{getD};
+ghost use lib.Dec.{eqb};
+ghost use Rattle.trace.specs.Header.{hasCrosspoints};
 ghost use Rattle.queues.specs.Queues.{more, lengths};
-ghost use Rattle.switch.specs.Steps.{arriveRefusal, arriveAnswer, arrive};
+ghost use Rattle.queues.specs.Turn.{turn};
+ghost use Rattle.queues.specs.Slot.{closing};
+ghost use Rattle.switch.specs.Switch.{heldAll, held};
+ghost use Rattle.switch.specs.Allowed.{switchAllowed};
+ghost use Rattle.switch.specs.Settling.{settled};
+ghost use Rattle.switch.specs.Draining.{drainRefusal, drain};
+ghost use Rattle.switch.specs.Steps.{arriveRefusal, arriveAnswer, arrive, closeRefusal, closeStep, close};
 ghost use Rattle.switch.specs.Making.{made};
 
 // A switch: the header's numbers, the slot number, the counts, and the queues.
@@ -107,6 +116,127 @@ fn take(s: Switch, input: u32, output: u32) -> Arrived
     }
 }
 
+// The switch after a closing that left these queues: its counts are found from what is held.
+fn settle(s: Switch, q: Queues) -> Switch
+    requires { ⌜ (heldAll q + s .dropped ≤ s .arrived) × (s .arrived ≤ 4096) × (s .slot ≤ 8192) ⌝ }
+    ensures { λ r. ⌜ r ≡ settled s q ⌝ }
+{
+    let h = judge::holds(q);
+    let out = h.outputs as u32;
+    let cross = h.crosspoints as u32;
+    let left = h.inputs as u32 + out + cross;
+    let sent = s.arrived - s.dropped - left;
+    let mut next = s;
+    next.slot = s.slot + 1;
+    next.sent = sent;
+    next.outmoved = sent + out;
+    next.crossed = sent + out + cross;
+    next.queues = q;
+    next
+}
+
+// All cycles and the sendings of a slot.
+fn closed_queues(model: u32, order: u32, ports: u32, speedup: u32, slot: u32, q: Queues) -> Queues
+    requires { ⌜ ports ≤ 16 ⌝ }
+    ensures { λ r. ⌜ r ≡ closing (hasCrosspoints model) q ports (turn order ports slot) speedup slot .queues ⌝ }
+{
+    let outcap = q.outcap;
+    let crosscap = q.crosscap;
+    let mut inlen = q.inlen;
+    let mut outlen = q.outlen;
+    let mut crosslen = q.crosslen;
+    let turn = queues::turn(order, ports, slot);
+    let mut log = [0u32; 1];
+    closing::close(
+        model == 2,
+        ports,
+        &turn,
+        speedup,
+        slot,
+        &outcap,
+        &crosscap,
+        &mut inlen,
+        &mut outlen,
+        &mut crosslen,
+        &mut log,
+        0,
+    );
+    let mut next = q;
+    next.inlen = inlen;
+    next.outlen = outlen;
+    next.crosslen = crosslen;
+    next
+}
+
+// One closing that is not refused.
+fn step(s: Switch) -> Switch
+    requires { ⌜ switchAllowed s ≡ true ⌝ }
+    ensures { λ r. ⌜ r ≡ closeStep s ⌝ }
+{
+    let q = s.queues;
+    settle(
+        s,
+        closed_queues(s.model, s.order, s.ports, s.speedup, s.slot, q),
+    )
+}
+
+// The refusals of a closing: 13, 15.
+fn close_refusal(s: Switch) -> u32
+    ensures { λ r. ⌜ r ≡ closeRefusal s ⌝ }
+{
+    let value = base::unless(judge::allowed(s), 13);
+    let slot = base::unless(s.slot < 8192, 15);
+    base::first(value, slot)
+}
+
+// The refusals of a drain: 13, 16, 15.
+fn drain_refusal(s: Switch, limit: u32) -> u32
+    ensures { λ r. ⌜ r ≡ drainRefusal s limit ⌝ }
+{
+    let value = base::unless(judge::allowed(s), 13);
+    let far = base::unless(limit <= 4096, 16);
+    let slot = base::unless(s.slot as u64 + limit as u64 <= 8192, 15);
+    base::first(value, base::first(far, slot))
+}
+
+// Whether nothing is held.
+fn is_empty(s: Switch) -> bool
+    ensures { λ r. ⌜ r ≡ eqb (held s) 0 ⌝ }
+{
+    let q = s.queues;
+    let h = judge::holds(q);
+    h.inputs + h.outputs + h.crosspoints == 0
+}
+
+// Closings until nothing is held, at most `limit` of them.
+fn quiet_slots(s: Switch, limit: u32) -> Drained
+    requires { ⌜ drainRefusal s limit ≡ 0 ⌝ }
+    ensures { λ r. ⌜ r ≡ drain s limit ⌝ }
+{
+    let mut now = s;
+    let mut n: u32 = 0;
+    while n < limit {
+        if is_empty(now) {
+            return Drained {
+                answer: Drain::Empty(n),
+                switch: now,
+            };
+        }
+        now = step(now);
+        n += 1;
+    }
+    if is_empty(now) {
+        return Drained {
+            answer: Drain::Empty(n),
+            switch: now,
+        };
+    }
+    Drained {
+        answer: Drain::NotEmpty(limit),
+        switch: now,
+    }
+}
+
 impl Switch {
     // A new switch from a trace's header and capacities.
     pub fn new(trace: &[u8]) -> Made
@@ -136,5 +266,36 @@ impl Switch {
             };
         }
         take(self, input, output)
+    }
+
+    // All cycles, then sending; the slot number rises by one.
+    pub fn close(self) -> Closed
+        ensures { λ r. ⌜ r ≡ close self ⌝ }
+    {
+        let n = close_refusal(self);
+        if n != 0 {
+            return Closed {
+                refusal: n,
+                switch: self,
+            };
+        }
+        Closed {
+            refusal: 0,
+            switch: step(self),
+        }
+    }
+
+    // Closes slots without arrivals until the switch is empty or the limit is reached.
+    pub fn drain(self, limit: u32) -> Drained
+        ensures { λ r. ⌜ r ≡ drain self limit ⌝ }
+    {
+        let n = drain_refusal(self, limit);
+        if n != 0 {
+            return Drained {
+                answer: Drain::Refused(n),
+                switch: self,
+            };
+        }
+        quiet_slots(self, limit)
     }
 }

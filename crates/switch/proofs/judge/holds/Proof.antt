@@ -25,8 +25,10 @@ packets-requires-3 c κs = search needs
 
 returns : tie.Need-returns
 unfolding packets heldIn heldOut heldCross
-returns c = ((c .before .before .before .before .packets .ensures .0, c .before .before .packets2 .ensures .0, c .packets3 .ensures .0),
-    (c .before .before .before .before .packets .ensures .1, c .before .before .packets2 .ensures .1, c .packets3 .ensures .1))
+returns c = (
+  (c .before .before .before .before .packets .ensures .0, c .before .before .packets2 .ensures .0, c .packets3 .ensures .0),
+  (c .before .before .before .before .packets .ensures .1, c .before .before .packets2 .ensures .1, c .packets3 .ensures .1),
+)
 
 pub holds-spec : {M : Type 1} → statement M
 holds-spec =

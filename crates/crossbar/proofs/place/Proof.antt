@@ -1,0 +1,20 @@
+-- `crossbar::place` meets its contract.
+-- Assumes nothing.
+use mathlib.Core.Path.{refl}
+use Rattle.queues.specs.Queues.{place}
+use borrow.Author.Needs.{needs}
+use Rattle.crossbar.proofs.place.Statement.{statement}
+use Rattle.crossbar.proofs.place.Tie as tie
+
+mul-result : tie.Need-mul-result
+mul-result c = search needs
+
+add-result : tie.Need-add-result
+add-result c = search needs
+
+returns : tie.Need-returns
+unfolding place
+returns c = refl
+
+pub place-spec : {M : Type 1} → statement M
+place-spec = tie.close (tie.spec mul-result add-result returns)
