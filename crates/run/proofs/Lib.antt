@@ -2,7 +2,9 @@ pub mod CountsLaws
 pub mod FoldLaws
 pub mod HistoryLaws
 pub mod LossLaws
+pub mod PassingLaws
 pub mod RoomLaws
 pub mod RunLaws
+pub mod SlotsLaws
 pub mod TakingLaws
 pub mod WordsLaws

@@ -47,12 +47,12 @@ module _ (q : Queues) (slot i j : ℕ) (incap inlen : List ℕ) (ec : incap ≡ 
       (record { of-inlen = el; of-log = k ∙ ap (entered log at) e; of-at = t; of-dropped = refl })
 
 -- words of one run after another
-logs-join : (a b : List Event) → logOf (a ++ b) ≡ logOf a ++ logOf b
+pub logs-join : (a b : List Event) → logOf (a ++ b) ≡ logOf a ++ logOf b
 unfolding logOf
 logs-join [] b = refl
 logs-join (e ∷ a) b = ap (word e ∷_) (logs-join a b)
 
-length-log : (a : List Event) → length (logOf a) ≡ length a
+pub length-log : (a : List Event) → length (logOf a) ≡ length a
 unfolding logOf
 length-log [] = refl
 length-log (e ∷ a) = ap suc (length-log a)
@@ -96,7 +96,7 @@ one-dropped q slot i j = go (hasRoom (q .incap) (q .inlen) (place i j))
     go true = unfold arrivalOf ofKind acceptedAt in omega arith
     go false = unfold arrivalOf ofKind droppedAt in omega arith
 
-takings-incap : (q : Queues) (slot : ℕ) (part : List ℕ) (k : ℕ) → takings q slot part k .queues .incap ≡ q .incap
+pub takings-incap : (q : Queues) (slot : ℕ) (part : List ℕ) (k : ℕ) → takings q slot part k .queues .incap ≡ q .incap
 unfolding takings begun after
 takings-incap q slot part zero = refl
 takings-incap q slot part (suc k) =
