@@ -1,5 +1,5 @@
 // The switch value (document 01, "One slot", "Counts and draining", refusal 13): a new switch, one arrival, closing a slot, draining.
-mod judge; // judge.rt: which switch values are allowed, refusal 13
+pub mod judge; // judge.rt: which switch values are allowed, refusal 13
 mod make; // make.rt: the capacities of a new switch, out of a trace
 
 use queues::Queues;
@@ -7,6 +7,7 @@ ghost use mathlib.Core.Path.{_≡_};
 ghost use mathlib.Core.Bool.{true};
 ghost use Prim.Native.Nat.{_+_, _<_, _≤_};
 ghost use lib.ListN.{getD};
+ghost use Rattle.base.specs.Refusal.{unless};
 ghost use lib.Dec.{eqb};
 ghost use Rattle.trace.specs.Header.{hasCrosspoints};
 ghost use Rattle.queues.specs.Queues.{more, lengths};
@@ -69,11 +70,18 @@ pub struct Drained {
     pub switch: Switch,
 }
 
+// Refusal 13 of a switch value that is not allowed, otherwise 0.
+pub fn refusal(s: Switch) -> u32
+    ensures { λ r. ⌜ r ≡ unless (switchAllowed s) 13 ⌝ }
+{
+    base::unless(judge::allowed(s), 13)
+}
+
 // The refusals of an arrival: 13, 11, 14.
 fn arrive_refusal(s: Switch, input: u32, output: u32) -> u32
     ensures { λ r. ⌜ r ≡ arriveRefusal s input output ⌝ }
 {
-    let value = base::unless(judge::allowed(s), 13);
+    let value = refusal(s);
     let ports = base::unless(base::both(input < s.ports, output < s.ports), 11);
     let more = base::unless(s.arrived < 4096, 14);
     base::first(value, base::first(ports, more))
@@ -184,7 +192,7 @@ fn step(s: Switch) -> Switch
 fn close_refusal(s: Switch) -> u32
     ensures { λ r. ⌜ r ≡ closeRefusal s ⌝ }
 {
-    let value = base::unless(judge::allowed(s), 13);
+    let value = refusal(s);
     let slot = base::unless(s.slot < 8192, 15);
     base::first(value, slot)
 }
@@ -193,7 +201,7 @@ fn close_refusal(s: Switch) -> u32
 fn drain_refusal(s: Switch, limit: u32) -> u32
     ensures { λ r. ⌜ r ≡ drainRefusal s limit ⌝ }
 {
-    let value = base::unless(judge::allowed(s), 13);
+    let value = refusal(s);
     let far = base::unless(limit <= 4096, 16);
     let slot = base::unless(s.slot as u64 + limit as u64 <= 8192, 15);
     base::first(value, base::first(far, slot))

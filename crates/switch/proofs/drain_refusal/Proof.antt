@@ -2,20 +2,16 @@
 -- Assumes nothing.
 use borrow.Author.Needs.{needs}
 use mathlib.Core.Path.{_≡_, refl, sym, _∙_, ap, ap₂}
-use mathlib.Core.Bool.{Bool}
-use Rattle.base.specs.Refusal.{unless, _⨟_}
+use Rattle.base.specs.Refusal.{_⨟_}
 use Rattle.switch.specs.Draining.{drainRefusal}
 use Rattle.switch.proofs.drain_refusal.Statement.{statement}
 use Rattle.switch.proofs.drain_refusal.Tie as tie
 
-allowed-requires : tie.Need-allowed-requires
-allowed-requires c κs = search needs
+refusal-requires : tie.Need-refusal-requires
+refusal-requires c κs = search needs
 
 unless-requires : tie.Need-unless-requires
 unless-requires c κs = search needs
-
-unless-requires-2 : tie.Need-unless-requires-2
-unless-requires-2 c κs = search needs
 
 cast-unless : tie.Need-cast-unless
 cast-unless c = search needs
@@ -23,8 +19,8 @@ cast-unless c = search needs
 add-unless : tie.Need-add-unless
 add-unless c = search needs
 
-unless-requires-3 : tie.Need-unless-requires-3
-unless-requires-3 c κs = search needs
+unless-requires-2 : tie.Need-unless-requires-2
+unless-requires-2 c κs = search needs
 
 first-requires : tie.Need-first-requires
 first-requires c κs = search needs
@@ -35,19 +31,18 @@ first-requires-2 c κs = search needs
 returns : tie.Need-returns
 unfolding drainRefusal
 returns c = c .first2 .ensures
-    ∙ ap₂ _⨟_ (c .before .before .before .before .before .unless .ensures ∙ ap (λ (x : Bool). unless x 13) (c .before .before .before .before .before .before .allowed .ensures))
-    (c .before .first .ensures ∙ ap₂ _⨟_ (c .before .before .before .before .unless2 .ensures) (c .before .before .unless3 .ensures))
+    ∙ ap₂ _⨟_ (c .before .before .before .before .before .refusal .ensures)
+    (c .before .first .ensures ∙ ap₂ _⨟_ (c .before .before .before .before .unless .ensures) (c .before .before .unless2 .ensures))
 
 pub drain-refusal-spec : {M : Type 1} → statement M
 drain-refusal-spec =
     tie.close
     (tie.spec
-    allowed-requires
+    refusal-requires
     unless-requires
-    unless-requires-2
     cast-unless
     add-unless
-    unless-requires-3
+    unless-requires-2
     first-requires
     first-requires-2
     returns)
