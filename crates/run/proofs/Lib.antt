@@ -1,4 +1,5 @@
 pub mod CountsLaws
+pub mod EndingLaws
 pub mod FoldLaws
 pub mod HistoryLaws
 pub mod LossLaws

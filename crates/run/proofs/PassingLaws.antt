@@ -50,7 +50,7 @@ here-then log h inlen outlen crosslen mid i o x kept at dropped to d slot a b =
       of-crosslen = b .of-crosslen;
       of-log = logs-then log mid kept 0 at (h .events) (d .events) (a .of-log) (a .of-at) (b .of-log);
       of-at = places-then log mid 0 at to (h .events) (d .events) (a .of-log) (a .of-at) (b .of-at);
-      of-dropped = ap (λ (n : ℕ). n + ofKind 2 (d .events)) (a .of-dropped)
+      of-dropped = ap (λ (n : ℕ). n + ofKind 2 (d .events)) (a .of-dropped);
     }
 
 pub here-start : (s log : List ℕ) (inlen outlen crosslen : List ℕ) → inlen ≡ fresh s .queues .inlen → outlen ≡ fresh s .queues .outlen → crosslen ≡ fresh s .queues .crosslen → Here log (slots s 0) inlen outlen crosslen log 0 0
@@ -179,15 +179,16 @@ module _ (s : List ℕ) (accepted : reading s ≡ 0) where
   -- the lent arrays hold the queues of the history
   pub held-here : (t : ℕ) (q : Queues) (log inlen outlen crosslen kept : List ℕ) (at dropped : ℕ) → t ≤ headerOf s .slots → q ≡ fresh s .queues → Here log (slots s t) inlen outlen crosslen kept at dropped → (q .incap ≡ slots s t .switch .queues .incap) × Held (slots s t .switch .queues) (q .outcap) (q .crosscap) inlen outlen crosslen
   held-here t q log inlen outlen crosslen kept at dropped h e a =
-      let k = slots-stay t h in
-      (ap (λ (p : Queues). p .incap) e ∙ sym (k .incap),
-      record {
-        of-outcap = ap (λ (p : Queues). p .outcap) e ∙ sym (k .outcap);
-        of-crosscap = ap (λ (p : Queues). p .crosscap) e ∙ sym (k .crosscap);
-        of-inlen = a .of-inlen;
-        of-outlen = a .of-outlen;
-        of-crosslen = a .of-crosslen
-      })
+      let k = slots-stay t h in (
+        ap (λ (p : Queues). p .incap) e ∙ sym (k .incap),
+        record {
+          of-outcap = ap (λ (p : Queues). p .outcap) e ∙ sym (k .outcap);
+          of-crosscap = ap (λ (p : Queues). p .crosscap) e ∙ sym (k .crosscap);
+          of-inlen = a .of-inlen;
+          of-outlen = a .of-outlen;
+          of-crosslen = a .of-crosslen;
+        },
+      )
 
   pub here-end : (t : ℕ) (log inlen outlen crosslen kept : List ℕ) (at dropped : ℕ) → t ≡ headerOf s .slots → Here log (slots s t) inlen outlen crosslen kept at dropped → Here log (wholeRun s) inlen outlen crosslen kept at dropped
   unfolding wholeRun

@@ -55,7 +55,7 @@ left-then d e inlen i o x log mid kept at to r a b =
       of-outlen = b .of-outlen;
       of-crosslen = b .of-crosslen;
       of-log = logs-then log mid kept at (r .at) (d .events) (e .events) (a .of-log) (a .of-at) (b .of-log);
-      of-at = places-then log mid at (r .at) to (d .events) (e .events) (a .of-log) (a .of-at) (b .of-at)
+      of-at = places-then log mid at (r .at) to (d .events) (e .events) (a .of-log) (a .of-at) (b .of-at);
     }
 
 -- arrivals change input queues alone
@@ -83,7 +83,7 @@ takings-others q slot part (suc k) =
       outcap = a .outcap ∙ b .outcap;
       crosscap = a .crosscap ∙ b .crosscap;
       outlen = a .outlen ∙ b .outlen;
-      crosslen = a .crosslen ∙ b .crosslen
+      crosslen = a .crosslen ∙ b .crosslen;
     }
 
 -- the arrays that the closing is lent hold the queues that the arrivals left
@@ -95,7 +95,7 @@ held-after q slot part k outcap crosscap inlen outlen crosslen left log kept at 
       of-crosscap = h .of-crosscap ∙ sym (o .crosscap);
       of-inlen = t .of-inlen;
       of-outlen = h .of-outlen ∙ sym (o .outlen);
-      of-crosslen = h .of-crosslen ∙ sym (o .crosslen)
+      of-crosslen = h .of-crosslen ∙ sym (o .crosslen);
     }
 
 -- the whole slot, on the first N of 16 places in turn

@@ -1,3 +1,4 @@
+pub mod Ending
+pub mod Loss
 pub mod Run
 pub mod Taking
-pub mod Loss

@@ -1,6 +1,6 @@
 // All slots of an accepted trace, in place: no switch is copied for an event.
-use crate::taking;
 use crate::Took;
+use crate::taking;
 use queues::Queues;
 use switch::Switch;
 ghost use mathlib.Core.Path.{_≡_};

@@ -103,9 +103,15 @@ loop-again c = let a = c .before .before .before .before .before .before .before
     let below : l .t < headerOf (now (a .trace)) .slots = omega (arith, pre .2) in
     let part = c .before .before .before .before .before .before .before .before .before .before .before .before .before .before .part-from .ensures ∙ ap (partFrom (now (a .trace)) (l .t)) (l .inv .5) in
     let held = held-here (now (a .trace)) (pre .0) (l .t) (a .s .queues) _ _ _ _ _ _ _ (omega arith) (ap (λ (w : Switch). w .queues) (pre .1)) (l .inv .6) in
-    let done = c .before .before .before .before .before .before .one-slot .ensures (slots (now (a .trace)) (l .t) .switch .queues) (held .0) (held .1) in
-    (omega arith, search needs, search needs, search needs, search needs, start-next (now (a .trace)) (pre .0) (l .t) below _ _ (l .inv .5) part,
-    here-by (now (a .trace)) (pre .0) (l .t) below (a .s) _ _ _ _ _ _ _ _ _ _ _ (l .dropped) _ _ (pre .1) part (l .inv .6) (done .0) (done .1))
+    let done = c .before .before .before .before .before .before .one-slot .ensures (slots (now (a .trace)) (l .t) .switch .queues) (held .0) (held .1) in (
+      omega arith,
+      search needs,
+      search needs,
+      search needs,
+      search needs,
+      start-next (now (a .trace)) (pre .0) (l .t) below _ _ (l .inv .5) part,
+      here-by (now (a .trace)) (pre .0) (l .t) below (a .s) _ _ _ _ _ _ _ _ _ _ _ (l .dropped) _ _ (pre .1) part (l .inv .6) (done .0) (done .1),
+    )
 
 same-length : tie.Need-same-length Inv-loop μ-loop
 same-length c = search needs
