@@ -4,7 +4,7 @@ use Prim.Native.Nat.{ℕ, zero, suc, _+_, _≤_, _<_}
 use native.Mathlib.Numerals.{add-one}
 use native.Mathlib.Nat.{not-suc-le-zero, eq-or-lt-of-le, le-of-suc-le-suc}
 use native.Mathlib.Omega.{arith}
-use mathlib.Core.Path.{_≡_, refl, sym, ap, _∙_, subst}
+use mathlib.Core.Path.{_≡_, refl, sym, ap, ap₂, _∙_, subst}
 use mathlib.Core.Logic.{_⊎_, ⊎-elim}
 use mathlib.Core.Bool.{Bool, true, false, _&&_, false-and, and-false}
 use mathlib.Core.List.{List, [], _∷_, _++_}
@@ -14,6 +14,10 @@ use Rattle.base.specs.Below.{allBelow, sumBelow, listBelow}
 pub both-true : (a b : Bool) → (a && b) ≡ true → (a ≡ true) × (b ≡ true)
 both-true true b h = (refl, h)
 both-true false b h = let z : _≡_ {A = Bool} false true = h in (z, cc)
+
+-- two tests joined as code joins them, from what is known of each
+pub joined : {r a a′ b b′ : Bool} → r ≡ (a && b) → a ≡ a′ → b ≡ b′ → r ≡ (a′ && b′)
+joined e x y = e ∙ ap₂ _&&_ x y
 
 -- a number below suc n is below n or is n
 pub below-suc : {C : Type 0} (n k : ℕ) → k < suc n → (k < n → C) → (k ≡ n → C) → C

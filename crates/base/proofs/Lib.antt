@@ -9,3 +9,4 @@ pub mod Refusal
 pub mod Sets
 pub mod Spelled
 pub mod Sums
+pub mod Unique

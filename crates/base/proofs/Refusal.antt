@@ -1,7 +1,7 @@
 -- Chains of refusals: where a chain refuses nothing none of its parts does.
 -- Assumes nothing.
 use Prim.Native.Nat.{ℕ, zero, suc}
-use mathlib.Core.Path.{_≡_, refl}
+use mathlib.Core.Path.{_≡_, refl, ap, ap₂, _∙_}
 use mathlib.Core.Bool.{Bool, true, false}
 use native.Mathlib.Omega.{arith}
 use Rattle.base.specs.Refusal.{unless, _⨟_}
@@ -36,3 +36,10 @@ passed b n m e = rw e
 pub failed : (b : Bool) (n m : ℕ) → b ≡ false → (unless b (suc n) ⨟ m) ≡ suc n
 unfolding unless _⨟_
 failed b n m e = rw e
+
+-- a chain and a test in it as code makes them, from what is known of their parts
+pub chained : {r a a′ b b′ : ℕ} → r ≡ (a ⨟ b) → a ≡ a′ → b ≡ b′ → r ≡ (a′ ⨟ b′)
+chained e x y = e ∙ ap₂ _⨟_ x y
+
+pub tested : (n : ℕ) {r : ℕ} {b b′ : Bool} → r ≡ unless b n → b ≡ b′ → r ≡ unless b′ n
+tested n e x = e ∙ ap (λ (b : Bool). unless b n) x

@@ -9,3 +9,4 @@ pub mod RunLaws
 pub mod SlotsLaws
 pub mod TakingLaws
 pub mod WordsLaws
+pub mod Unique

@@ -7,3 +7,4 @@ pub mod MakingLaws
 pub mod QueuesKept
 pub mod SettlingLaws
 pub mod StepsLaws
+pub mod Unique

@@ -1,4 +1,5 @@
 // Which switch values are allowed (document 01, refusal 13).
+use crate::Packets;
 use crate::Switch;
 use queues::Queues;
 ghost use mathlib.Core.Path.{_≡_};
@@ -7,7 +8,6 @@ ghost use Prim.Native.Nat.{_<_, _+_};
 ghost use lib.ListN.{getD};
 ghost use lib.Dec.{ltb, eqb};
 ghost use Rattle.base.specs.Below.{allBelow};
-ghost use Rattle.switch.specs.Switch.{heldIn, heldOut, heldCross, heldAll};
 ghost use Rattle.switch.specs.Allowed.{usedPair, queueAllowed, queuesAllowed, countsAgree, switchAllowed};
 
 // Whether N ports use place k of those for pairs.
@@ -68,27 +68,6 @@ fn queues_allowed(model: u32, ports: u32, q: Queues) -> bool
     base::both(inputs, base::both(outputs, crosspoints))
 }
 
-// What the three kinds of queues hold.
-pub struct Packets {
-    pub inputs: u64,
-    pub outputs: u64,
-    pub crosspoints: u64,
-}
-
-pub fn holds(q: Queues) -> Packets
-    ensures { λ r. ⌜ (r .inputs ≡ heldIn q) × (r .outputs ≡ heldOut q) × (r .crosspoints ≡ heldCross q) ⌝ }
-    ensures { λ r. ⌜ (r .inputs < 281474976710656) × (r .outputs < 281474976710656) × (r .crosspoints < 281474976710656) ⌝ }
-{
-    let inlen = q.inlen;
-    let outlen = q.outlen;
-    let crosslen = q.crosslen;
-    Packets {
-        inputs: queues::packets(&inlen, 256),
-        outputs: queues::packets(&outlen, 16),
-        crosspoints: queues::packets(&crosslen, 256),
-    }
-}
-
 fn sums_agree(
     arrived: u32,
     dropped: u32,
@@ -118,7 +97,7 @@ fn counts_agree(s: Switch) -> bool
         s.crossed,
         s.outmoved,
         s.sent,
-        holds(q),
+        crate::holds(q),
     )
 }
 

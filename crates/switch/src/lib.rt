@@ -1,5 +1,5 @@
 // The switch value (document 01, "One slot", "Counts and draining", refusal 13): a new switch, one arrival, closing a slot, draining.
-pub mod judge; // judge.rt: which switch values are allowed, refusal 13
+mod judge; // judge.rt: which switch values are allowed, refusal 13
 mod make; // make.rt: the capacities of a new switch, out of a trace
 
 use queues::Queues;
@@ -13,7 +13,7 @@ ghost use Rattle.trace.specs.Header.{hasCrosspoints};
 ghost use Rattle.queues.specs.Queues.{more, lengths};
 ghost use Rattle.queues.specs.Turn.{turn};
 ghost use Rattle.queues.specs.Slot.{closing};
-ghost use Rattle.switch.specs.Switch.{heldAll, held};
+ghost use Rattle.switch.specs.Switch.{heldIn, heldOut, heldCross, heldAll, held};
 ghost use Rattle.switch.specs.Allowed.{switchAllowed};
 ghost use Rattle.switch.specs.Settling.{settled};
 ghost use Rattle.switch.specs.Draining.{drainRefusal, drain};
@@ -68,6 +68,27 @@ pub enum Drain {
 pub struct Drained {
     pub answer: Drain,
     pub switch: Switch,
+}
+
+// What the three kinds of queues hold.
+pub struct Packets {
+    pub inputs: u64,
+    pub outputs: u64,
+    pub crosspoints: u64,
+}
+
+pub fn holds(q: Queues) -> Packets
+    ensures { λ r. ⌜ (r .inputs ≡ heldIn q) × (r .outputs ≡ heldOut q) × (r .crosspoints ≡ heldCross q) ⌝ }
+    ensures { λ r. ⌜ (r .inputs < 281474976710656) × (r .outputs < 281474976710656) × (r .crosspoints < 281474976710656) ⌝ }
+{
+    let inlen = q.inlen;
+    let outlen = q.outlen;
+    let crosslen = q.crosslen;
+    Packets {
+        inputs: queues::packets(&inlen, 256),
+        outputs: queues::packets(&outlen, 16),
+        crosspoints: queues::packets(&crosslen, 256),
+    }
 }
 
 // Refusal 13 of a switch value that is not allowed, otherwise 0.
@@ -129,7 +150,7 @@ fn settle(s: Switch, q: Queues) -> Switch
     requires { ⌜ (heldAll q + s .dropped ≤ s .arrived) × (s .arrived ≤ 4096) × (s .slot ≤ 8192) ⌝ }
     ensures { λ r. ⌜ r ≡ settled s q ⌝ }
 {
-    let h = judge::holds(q);
+    let h = holds(q);
     let out = h.outputs as u32;
     let cross = h.crosspoints as u32;
     let left = h.inputs as u32 + out + cross;
@@ -212,7 +233,7 @@ fn is_empty(s: Switch) -> bool
     ensures { λ r. ⌜ r ≡ eqb (held s) 0 ⌝ }
 {
     let q = s.queues;
-    let h = judge::holds(q);
+    let h = holds(q);
     h.inputs + h.outputs + h.crosspoints == 0
 }
 

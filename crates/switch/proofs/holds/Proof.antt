@@ -1,9 +1,9 @@
--- `switch::judge::holds` meets its contract.
+-- `switch::holds` meets its contract.
 -- Assumes nothing.
 use borrow.Author.Needs.{needs}
 use Rattle.switch.specs.Switch.{packets, heldIn, heldOut, heldCross}
-use Rattle.switch.proofs.judge.holds.Statement.{statement}
-use Rattle.switch.proofs.judge.holds.Tie as tie
+use Rattle.switch.proofs.holds.Statement.{statement}
+use Rattle.switch.proofs.holds.Tie as tie
 
 slice-aggregate-packets : tie.Need-slice-aggregate-packets
 slice-aggregate-packets c = search needs
