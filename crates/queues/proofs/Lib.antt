@@ -2,3 +2,4 @@ pub mod LogLaws
 pub mod QueuesLaws
 pub mod TurnPlaces
 pub mod WrapLaws
+pub mod Unique
