@@ -9,16 +9,6 @@ ghost use Rattle.queues.specs.Lent.{Held, LeftAll};
 ghost use Rattle.closing.specs.Sent.{Sent, unsent, sendStep};
 use queues::Went;
 
-// N.
-fn ports_of(ports: u32) -> u32
-    ensures { λ r. ⌜ r ≡ min ports 16 ⌝ }
-{
-    if ports < 16 {
-        return ports;
-    }
-    16
-}
-
 // One cycle of a crossbar, or of a CIOQ switch.
 fn cycle(
     crossbar: bool,
@@ -51,13 +41,7 @@ fn cycle(
         log,
         first.at,
     );
-    if first.moved {
-        return Went {
-            at: second.at,
-            moved: true,
-        };
-    }
-    second
+    crossbar::then(first, second)
 }
 
 // As many cycles as the speedup. After a cycle in which nothing moved nothing would move, so the others are left out.
@@ -95,7 +79,8 @@ fn cycles(
             next,
         );
         next = one.at;
-        if !one.moved {
+        let moved = one.moved;
+        if !moved {
             return next;
         }
         k += 1;
@@ -160,5 +145,5 @@ pub fn close(
         log,
         at,
     );
-    sendings(ports_of(ports), slot, outlen, log, next)
+    sendings(crossbar::ports_of(ports), slot, outlen, log, next)
 }

@@ -1,4 +1,5 @@
--- The contracts fix the outcome: two outcomes that the contract of a part of a cycle allows are the same.
+-- The contracts fix the outcome: two outcomes that the contract of a public function allows are the same. (Those of `ports_of` and `then` are
+-- equations of the answer.)
 -- Assumes nothing.
 use Prim.Native.Nat.{ℕ, min}
 use mathlib.Core.Path.{_≡_, sym, ap, _∙_}

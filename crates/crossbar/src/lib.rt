@@ -12,8 +12,8 @@ ghost use Rattle.queues.specs.Lent.{Left};
 ghost use Rattle.crossbar.specs.Steps.{crossStep, outmoveStep};
 use queues::Went;
 
-// N.
-fn ports_of(ports: u32) -> u32
+// N: of more than 16 ports the first 16.
+pub fn ports_of(ports: u32) -> u32
     ensures { λ r. ⌜ r ≡ min ports 16 ⌝ }
 {
     if ports < 16 {
@@ -30,7 +30,7 @@ fn place(i: u32, j: u32) -> usize
 }
 
 // What was done, and then something more.
-fn then(w: Went, v: Went) -> Went
+pub fn then(w: Went, v: Went) -> Went
     ensures { λ r. ⌜ r ≡ record { at = v .at; moved = w .moved || v .moved } ⌝ }
 {
     if w.moved {

@@ -31,6 +31,9 @@ input-part-requires c κs = tt
 output-part-requires : tie.Need-output-part-requires
 output-part-requires c κs = tt
 
+then-requires : tie.Need-then-requires
+then-requires c κs = tt
+
 same-length-4 : tie.Need-same-length-4
 same-length-4 c = search needs
 
@@ -46,24 +49,7 @@ same-length-7 c = search needs
 returns-2 : tie.Need-returns-2
 returns-2 c q h = let a = c .before .before .before .before .before .before .before .before .before .before .before .before .before .before .before .before .before .before .before .before .before .before .before .before .before .before .before .before .args in
     rw (not-false (a .crossbar) (c .before .before .before .before .before .before .before .before .before .before .before .before .before .before .before .before .before .before .before .before .before .if1 .left))
-    (crossbar-left q (min (a .ports) 16) (take (min (a .ports) 16) (now (a .turn))) (a .slot) (a .cycle) h (c .before .before .before .before .before .before .before .before .before .before .before .before .before .before .before .before .before .input-part .ensures) (c .before .before .before .before .before .before .before .output-part .ensures) (rw (c .if2 .taken)))
-
-same-length-8 : tie.Need-same-length-8
-same-length-8 c = search needs
-
-same-length-9 : tie.Need-same-length-9
-same-length-9 c = search needs
-
-same-length-10 : tie.Need-same-length-10
-same-length-10 c = search needs
-
-same-length-11 : tie.Need-same-length-11
-same-length-11 c = search needs
-
-returns-3 : tie.Need-returns-3
-returns-3 c q h = let a = c .before .before .before .before .before .before .before .before .before .before .before .before .before .before .before .before .before .before .before .before .before .before .before .before .before .before .before .before .args in
-    rw (not-false (a .crossbar) (c .before .before .before .before .before .before .before .before .before .before .before .before .before .before .before .before .before .before .before .before .before .if1 .left))
-    (crossbar-left q (min (a .ports) 16) (take (min (a .ports) 16) (now (a .turn))) (a .slot) (a .cycle) h (c .before .before .before .before .before .before .before .before .before .before .before .before .before .before .before .before .before .input-part .ensures) (c .before .before .before .before .before .before .before .output-part .ensures) (rw (c .if2 .left)))
+    (crossbar-left q (min (a .ports) 16) (take (min (a .ports) 16) (now (a .turn))) (a .slot) (a .cycle) h (c .before .before .before .before .before .before .before .before .before .before .before .before .before .before .before .before .before .input-part .ensures) (c .before .before .before .before .before .before .before .output-part .ensures) (c .then .ensures))
 
 pub cycle-spec : {M : Type 1} → statement M
 cycle-spec =
@@ -76,13 +62,9 @@ cycle-spec =
     returns
     input-part-requires
     output-part-requires
+    then-requires
     same-length-4
     same-length-5
     same-length-6
     same-length-7
-    returns-2
-    same-length-8
-    same-length-9
-    same-length-10
-    same-length-11
-    returns-3)
+    returns-2)

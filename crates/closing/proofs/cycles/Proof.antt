@@ -29,21 +29,21 @@ cycle-requires : tie.Need-cycle-requires Inv-loop μ-loop
 cycle-requires c κs = tt
 
 same-length : tie.Need-same-length Inv-loop μ-loop
-same-length c = c .before .before .before .before .before .before .before .before .before .before .cycle .kept .1 .1 .1 .1 .1 .1 .1 .0 ∙ c .before .before .before .before .before .before .before .before .before .before .before .before .before .before .before .before .loop .inv .1
+same-length c = c .before .before .before .before .before .before .before .before .before .cycle .kept .1 .1 .1 .1 .1 .1 .1 .0 ∙ c .before .before .before .before .before .before .before .before .before .before .before .before .before .before .before .loop .inv .1
 
 same-length-2 : tie.Need-same-length-2 Inv-loop μ-loop
-same-length-2 c = c .before .before .before .before .before .before .before .before .before .before .cycle .kept .1 .1 .1 .1 .1 .1 .1 .1 .0 ∙ c .before .before .before .before .before .before .before .before .before .before .before .before .before .before .before .before .loop .inv .2
+same-length-2 c = c .before .before .before .before .before .before .before .before .before .cycle .kept .1 .1 .1 .1 .1 .1 .1 .1 .0 ∙ c .before .before .before .before .before .before .before .before .before .before .before .before .before .before .before .loop .inv .2
 
 same-length-3 : tie.Need-same-length-3 Inv-loop μ-loop
-same-length-3 c = c .before .before .before .before .before .before .before .before .before .before .cycle .kept .1 .1 .1 .1 .1 .1 .1 .1 .1 .0 ∙ c .before .before .before .before .before .before .before .before .before .before .before .before .before .before .before .before .loop .inv .3
+same-length-3 c = c .before .before .before .before .before .before .before .before .before .cycle .kept .1 .1 .1 .1 .1 .1 .1 .1 .1 .0 ∙ c .before .before .before .before .before .before .before .before .before .before .before .before .before .before .before .loop .inv .3
 
 same-length-4 : tie.Need-same-length-4 Inv-loop μ-loop
-same-length-4 c = c .before .before .before .before .before .before .before .before .before .before .cycle .kept .1 .1 .1 .1 .1 .1 .1 .1 .1 .1 .0 ∙ c .before .before .before .before .before .before .before .before .before .before .before .before .before .before .before .before .loop .inv .4
+same-length-4 c = c .before .before .before .before .before .before .before .before .before .cycle .kept .1 .1 .1 .1 .1 .1 .1 .1 .1 .1 .0 ∙ c .before .before .before .before .before .before .before .before .before .before .before .before .before .before .before .loop .inv .4
 
 returns : tie.Need-returns Inv-loop μ-loop
-returns c q h = let a = c .before .before .before .before .before .before .before .before .before .before .before .before .before .before .before .before .before .before .before .before .before .before .before .args in
-    let l = c .before .before .before .before .before .before .before .before .before .before .before .before .before .before .before .before .loop in
-    cycles-idle (a .crossbar) q (min (a .ports) 16) (take (min (a .ports) 16) (now (a .turn))) (a .slot) (now (a .log)) (a .at) (l .k) h (l .inv .5 q h) (c .before .before .before .before .before .before .before .before .before .before .cycle .ensures) (a .speedup) (omega arith) (omega arith) (not-true _ (c .if1 .taken))
+returns c q h = let a = c .before .before .before .before .before .before .before .before .before .before .before .before .before .before .before .before .before .before .before .before .before .before .args in
+    let l = c .before .before .before .before .before .before .before .before .before .before .before .before .before .before .before .loop in
+    cycles-idle (a .crossbar) q (min (a .ports) 16) (take (min (a .ports) 16) (now (a .turn))) (a .slot) (now (a .log)) (a .at) (l .k) h (l .inv .5 q h) (c .before .before .before .before .before .before .before .before .before .cycle .ensures) (a .speedup) (omega arith) (omega arith) (not-true _ (c .if1 .taken))
 
 add-k : tie.Need-add-k Inv-loop μ-loop
 add-k c = omega arith
@@ -52,14 +52,14 @@ loop-less : tie.Need-loop-less Inv-loop μ-loop
 loop-less c = omega arith
 
 loop-again : tie.Need-loop-again Inv-loop μ-loop
-loop-again c = let a = c .before .before .before .before .before .before .before .before .before .before .before .before .before .before .before .before .before .before .before .before .before .before .before .args in
-    let l = c .before .before .before .before .before .before .before .before .before .before .before .before .before .before .before .before .loop in
-    let x = c .before .before .before .before .before .before .before .before .before .before .cycle in (
+loop-again c = let a = c .before .before .before .before .before .before .before .before .before .before .before .before .before .before .before .before .before .before .before .before .before .before .args in
+    let l = c .before .before .before .before .before .before .before .before .before .before .before .before .before .before .before .loop in
+    let x = c .before .before .before .before .before .before .before .before .before .cycle in (
       omega arith,
-      x .kept .1 .1 .1 .1 .1 .1 .1 .0 ∙ l .inv .1,
-      x .kept .1 .1 .1 .1 .1 .1 .1 .1 .0 ∙ l .inv .2,
-      x .kept .1 .1 .1 .1 .1 .1 .1 .1 .1 .0 ∙ l .inv .3,
-      x .kept .1 .1 .1 .1 .1 .1 .1 .1 .1 .1 .0 ∙ l .inv .4,
+      _∙_ {b = length (l .inlen)} (x .kept .1 .1 .1 .1 .1 .1 .1 .0) (l .inv .1),
+      _∙_ {b = length (l .outlen)} (x .kept .1 .1 .1 .1 .1 .1 .1 .1 .0) (l .inv .2),
+      _∙_ {b = length (l .crosslen)} (x .kept .1 .1 .1 .1 .1 .1 .1 .1 .1 .0) (l .inv .3),
+      _∙_ {b = length (l .log)} (x .kept .1 .1 .1 .1 .1 .1 .1 .1 .1 .1 .0) (l .inv .4),
       λ q h. cycles-more (a .crossbar) q (min (a .ports) 16) (take (min (a .ports) 16) (now (a .turn))) (a .slot) (now (a .log)) (a .at) (l .k) h (l .inv .5 q h) (x .ensures),
     )
 
