@@ -1,42 +1,29 @@
--- The contracts fix the outcome: two outcomes that the contract of a public function allows are the same. (Those of `ports_of` and `then` are
--- equations of the answer.)
+-- Each contract of this crate allows one answer, and those of the two parts leave the queues and the log one way, as `Unique` of base says it.
 -- Assumes nothing.
-use Prim.Native.Nat.{ℕ, min}
-use mathlib.Core.Path.{_≡_, sym, ap, _∙_}
-use mathlib.Core.Bool.{Bool}
+use Prim.Native.Nat.{ℕ}
 use mathlib.Core.List.{List}
-use lib.ListN.{take}
+use denote.Ref.{now}
+use Rattle.base.proofs.Unique.{determined, OneAnswer, OneShown}
 use Rattle.queues.specs.declared.Went.{Went}
-use Rattle.queues.specs.Flow.{Flow}
-use Rattle.queues.specs.Crossbar.{inputPart, outputPart}
-use Rattle.queues.specs.Lent.{Left}
+use Rattle.queues.proofs.LeftLaws.{left-one}
+use Rattle.crossbar.proofs.ports_of.Kinds as ports-of-kinds
+use Rattle.crossbar.proofs.ports_of.Reads as ports-of
+use Rattle.crossbar.proofs.then.Kinds as then-kinds
+use Rattle.crossbar.proofs.then.Reads as then
+use Rattle.crossbar.proofs.input_part.Kinds as input-part-kinds
+use Rattle.crossbar.proofs.input_part.Reads as input-part
+use Rattle.crossbar.proofs.output_part.Kinds as output-part-kinds
+use Rattle.crossbar.proofs.output_part.Reads as output-part
 
--- what is left in the two lists of queues and in the log, and the answer
-pub record Same (from from′ to to′ kept kept′ : List ℕ) (r r′ : Went) : Type 0 where
-  pub same-from : from ≡ from′
-  pub same-to : to ≡ to′
-  pub same-log : kept ≡ kept′
-  pub same-answer : r ≡ r′
+pub ports-of-one : OneAnswer 0 ports-of-kinds.ps ports-of-kinds.r ports-of.Post
+ports-of-one κs a x y d e = determined
 
-same-went : (r s : Went) → r .at ≡ s .at → r .moved ≡ s .moved → r ≡ s
-same-went r s a m = ap (λ (at : ℕ). record { at = at; moved = r .moved }) a ∙ ap (λ (moved : Bool). record { at = s .at; moved = moved }) m
+pub then-one : OneAnswer 0 then-kinds.ps then-kinds.r then.Post
+then-one κs a x y d e = determined
 
-module _ {from from′ to to′ kept kept′ : List ℕ} {r r′ : Went} where
-  pub left-unique : {f : Flow} {log : List ℕ} {at : ℕ} → Left f from to log kept at r → Left f from′ to′ log kept′ at r′ → Same from from′ to to′ kept kept′ r r′
-  left-unique x y =
-      record {
-        same-from = x .of-from ∙ sym (y .of-from);
-        same-to = x .of-to ∙ sym (y .of-to);
-        same-log = x .of-log ∙ sym (y .of-log);
-        same-answer = same-went r r′ (x .of-at ∙ sym (y .of-at)) (x .of-moved ∙ sym (y .of-moved));
-      }
+-- beside the answer: the queues that packets leave, those that they join, and the log, which are the sixth to the eighth parameter
+pub input-part-one : OneShown 5 input-part-kinds.ps input-part-kinds.r {A = λ κs. Went × List ℕ × List ℕ × List ℕ} (λ κs x d. (x, now (d .1 .1 .1 .1 .1 .0), now (d .1 .1 .1 .1 .1 .1 .0), now (d .1 .1 .1 .1 .1 .1 .1 .0))) input-part.Post
+input-part-one κs a x y d e = left-one
 
-  pub input-part-unique : (ports slot cycle at : ℕ) (turn crosscap inlen crosslen log : List ℕ)
-      → Left (inputPart (min ports 16) (take (min ports 16) turn) crosscap inlen crosslen slot cycle) from to log kept at r
-      → Left (inputPart (min ports 16) (take (min ports 16) turn) crosscap inlen crosslen slot cycle) from′ to′ log kept′ at r′ → Same from from′ to to′ kept kept′ r r′
-  input-part-unique ports slot cycle at turn crosscap inlen crosslen log x y = left-unique x y
-
-  pub output-part-unique : (ports slot cycle at : ℕ) (turn outcap crosslen outlen log : List ℕ)
-      → Left (outputPart (min ports 16) (take (min ports 16) turn) outcap crosslen outlen slot cycle) from to log kept at r
-      → Left (outputPart (min ports 16) (take (min ports 16) turn) outcap crosslen outlen slot cycle) from′ to′ log kept′ at r′ → Same from from′ to to′ kept kept′ r r′
-  output-part-unique ports slot cycle at turn outcap crosslen outlen log x y = left-unique x y
+pub output-part-one : OneShown 5 output-part-kinds.ps output-part-kinds.r {A = λ κs. Went × List ℕ × List ℕ × List ℕ} (λ κs x d. (x, now (d .1 .1 .1 .1 .1 .0), now (d .1 .1 .1 .1 .1 .1 .0), now (d .1 .1 .1 .1 .1 .1 .1 .0))) output-part.Post
+output-part-one κs a x y d e = left-one

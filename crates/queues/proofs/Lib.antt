@@ -1,5 +1,6 @@
+pub mod LeftLaws
 pub mod LogLaws
 pub mod QueuesLaws
 pub mod TurnPlaces
-pub mod WrapLaws
 pub mod Unique
+pub mod WrapLaws

@@ -1,0 +1,11 @@
+pub mod Arrival
+pub mod Bound
+pub mod C7
+pub mod Capacity
+pub mod Counts
+pub mod Crossed
+pub mod Cycle
+pub mod History
+pub mod Potential
+pub mod Sending
+pub mod Sums

@@ -1,0 +1,3 @@
+pub mod Greedy
+pub mod Rival
+pub mod Switch

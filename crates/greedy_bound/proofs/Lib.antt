@@ -1,0 +1,11 @@
+pub mod Answers
+pub mod C7
+pub mod HighestFirst
+pub mod Histories
+pub mod LimitLaws
+pub mod Linked
+pub mod NoRivalBeats
+pub mod Pairs
+pub mod RunByTurn
+pub mod Slots
+pub mod Unique

@@ -1,0 +1,4 @@
+pub mod Answer
+pub mod C7
+pub mod Orders
+pub mod Rivalry
