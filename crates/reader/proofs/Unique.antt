@@ -2,18 +2,15 @@
 -- told and not where they lie, so two such answers are the same in all but that.
 -- Assumes nothing.
 use Prim.Native.Nat.{ℕ}
-use mathlib.Core.Path.{_≡_, sym, _∙_}
+use mathlib.Core.Path.{_≡_}
 use mathlib.Core.List.{List}
 use denote.Ref.{RefT, now}
+use Rattle.base.proofs.Unique.{determined}
 use Rattle.trace.specs.declared.Standing.{Standing}
 use Rattle.trace.specs.Slots.{standing}
 use Rattle.reader.specs.declared.Reader.{Reader}
 use Rattle.reader.specs.declared.Handed.{Handed}
 use Rattle.reader.specs.Requests.{slotAfter, Answered}
-
--- two things that are each one thing are equal
-pub determined : {A : Type 0} {a b d : A} → a ≡ d → b ≡ d → a ≡ b
-determined x y = x ∙ sym y
 
 pub slot-after-one : (s : List ℕ) (t m n : ℕ) → m ≡ slotAfter s t → n ≡ slotAfter s t → m ≡ n
 slot-after-one s t m n = determined

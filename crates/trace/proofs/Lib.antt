@@ -3,3 +3,4 @@ pub mod HeaderLaws
 pub mod ReadingLaws
 pub mod SlotsLaws
 pub mod TablesLaws
+pub mod Unique

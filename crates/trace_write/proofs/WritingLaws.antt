@@ -11,14 +11,17 @@ use lib.Dec.{leb, eqb}
 use lib.Seq.{sets}
 use borrow.Author.Tests.{eqb-true, leb-true, eq-eqb, le-leb}
 use Rattle.base.specs.Digits.{spell}
-use Rattle.base.specs.Refusal.{unless}
+use Rattle.base.specs.Refusal.{unless, _⨟_}
 use Rattle.base.proofs.Below.{both-true}
 use Rattle.base.proofs.Digits.{length-spell}
-use Rattle.base.proofs.Refusal.{unless-zero, chain-zero, stops, goes-on, passed}
+use Rattle.base.proofs.Refusal.{unless-zero, chain-zero, stops, goes-on, passed, chained, tested}
 use Rattle.base.proofs.Sets.{sets-then, sets-start}
 use Rattle.trace.specs.declared.Header.{Header}
 use Rattle.trace.specs.declared.Places.{Places}
-use Rattle.trace.specs.Header.{headerRefusal, capacityCount, slotCountsAt, arrivalsAt, totalOf, placesOf}
+use Rattle.trace.specs.declared.LaidOut.{LaidOut}
+use Rattle.trace.specs.declared.LaidOut.the-variants.{At, Refused as LaidRefused}
+use Rattle.trace.specs.Header.{headerRefusal, capacityCount, slotCountsAt, arrivalsAt, totalOf, placesOf, laidOut}
+use Rattle.trace.proofs.HeaderLaws.{laid-at, laid-by}
 use Rattle.trace_write.specs.declared.Written.the-variants.{Filled, Refused}
 use Rattle.trace_write.specs.Writing.{lengthsRight, lentRefusal, bodyRefusal, writing, headerWords, file, answerOf, outOf, written, writtenOut}
 
@@ -106,7 +109,7 @@ module _ (h : Header) (caps counts ports : List ℕ) where
   unfolding bodyRefusal
   lengths-passed room e = unless-zero _ 16 (chain-zero _ _ e .0)
 
-  -- the ways out
+  -- what refuses, and what is left behind, at each way out
   refused-so : (n : ℕ) (out : List ℕ) → writing h caps counts ports (length out) ≡ n → (n ≡ 0 → ⊥) → (Refused n ≡ written h caps counts ports out) × (out ≡ writtenOut h caps counts ports out)
   unfolding written writtenOut
   refused-so n out e ne = rw e (go n ne)
@@ -130,3 +133,30 @@ module _ (h : Header) (caps counts ports : List ℕ) where
       let w = writable (length out) none in
       let n : length (file h caps counts ports) ≤ length out = omega (arith, length-file (w .long), w .fits) in
       rw none (refl, sets-start out (file h caps counts ports) n)
+
+  -- the chain as the code makes it
+  pub body-chained : (p : Places) (room : ℕ) {right : Bool} {seventeen nine eighteen rest r : ℕ} → p ≡ placesOf h → right ≡ lengthsRight h caps counts ports → seventeen ≡ unless right 17 → nine ≡ lentRefusal h caps counts ports → eighteen ≡ unless (leb (p .total) room) 18 → rest ≡ (nine ⨟ eighteen) → r ≡ (seventeen ⨟ rest) → r ≡ bodyRefusal h caps counts ports room
+  unfolding bodyRefusal placesOf
+  body-chained p room e right seventeen nine eighteen rest r =
+      chained r (tested 17 seventeen right) (chained rest nine (tested 18 eighteen (ap (λ (q : Places). leb (q .total) room) e)))
+
+  -- the ways out as the code comes to them: l is what laying the header out answers, and n what the rest is refused with
+  module _ (out : List ℕ) {l : LaidOut} (laid : l ≡ laidOut h) where
+    pub refused-by-header : (n : ℕ) → l ≡ LaidRefused n → (Refused n ≡ written h caps counts ports out) × (out ≡ writtenOut h caps counts ports out)
+    refused-by-header n e = let by = laid-by h n (sym laid ∙ e) in header-refused n out (by .0) (by .1)
+
+    module _ (p : Places) (n : ℕ) (at : l ≡ At p) (judged : n ≡ bodyRefusal h caps counts ports (length out)) where
+      placed : (headerRefusal h ≡ 0) × (p ≡ placesOf h)
+      placed = laid-at h p (sym laid ∙ at)
+
+      pub refused-by-body : (n ≡ 0 → ⊥) → (Refused n ≡ written h caps counts ports out) × (out ≡ writtenOut h caps counts ports out)
+      refused-by-body = body-refused n out (placed .0) judged
+
+      pub fillable : n ≡ 0 → (headerRefusal h ≡ 0) × (p ≡ placesOf h) × (lengthsRight h caps counts ports ≡ true)
+      fillable z = (placed .0, placed .1, lengths-passed (length out) (sym judged ∙ z))
+
+      pub filled-out : n ≡ 0 → (o : List ℕ) → o ≡ sets out 0 (file h caps counts ports) → (Filled (p .total) ≡ written h caps counts ports out) × (o ≡ writtenOut h caps counts ports out)
+      unfolding placesOf
+      filled-out z o e =
+          let f = filled out (placed .0) (sym judged ∙ z) in
+          (ap (λ (q : Places). Filled (q .total)) (placed .1) ∙ f .0, e ∙ f .1)

@@ -10,7 +10,6 @@ use native.Mathlib.Nat.{add-zero, add-assoc}
 use Rattle.base.proofs.Lists.{getD-kept}
 use Rattle.trace.specs.Reading.{word, portByte}
 use lib.ListN.{length, getD}
-use native.Mathlib.Nat.{add-zero}
 use Rattle.trace.proofs.arrival.Statement.{statement}
 use Rattle.trace.proofs.arrival.Tie as tie
 
@@ -43,12 +42,13 @@ unfolding arrivalOf portByte
 returns c = let a = c .before .before .before .before .before .args in
     let s = now (a .trace) in
     let p : ℕ = word s 32 + 2 * a .a in
-    let at : c .before .before .place .result ≡ min p (length s) = cc in
+    let at : c .before .before .place .result ≡ min p (length s) =
+    c .before .before .place .ensures ∙ ap (λ (n : ℕ). min (n + 2 * a .a) (length s)) (c .before .before .before .word .ensures) in
     let first : c .before .byte .result ≡ getD s (word s 32 + 2 * a .a) 0 =
     c .before .byte .ensures .0 ∙ ap (λ (n : ℕ). getD s n 0) (at ∙ sym (add-zero _)) ∙ getD-kept s p 0 ∙ ap (λ (n : ℕ). getD s n 0) (add-zero p) in
     let second : c .byte2 .result ≡ getD s (word s 32 + (2 * a .a + 1)) 0 =
     c .byte2 .ensures .0 ∙ ap (λ (n : ℕ). getD s (n + 1) 0) at ∙ getD-kept s p 1 ∙ ap (λ (n : ℕ). getD s n 0) (add-assoc _ _ 1) in
-    cc
+    λ i. record { input = first i; output = second i }
 
 pub arrival-spec : {M : Type 1} → statement M
 arrival-spec =

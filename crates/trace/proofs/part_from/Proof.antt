@@ -3,9 +3,7 @@
 use borrow.Author.Needs.{needs}
 use denote.Ref.{now}
 use Rattle.trace.specs.Slots.{partFrom}
-use Rattle.trace.specs.Slots.{partFrom}
-use Rattle.trace.specs.Slots.{partFrom}
-use mathlib.Core.Path.{_≡_, refl, sym, _∙_, ap}
+use mathlib.Core.Path.{_≡_, refl, sym, _∙_, ap, ap₂}
 use Prim.Native.Nat.{ℕ, _+_, _*_, _-_, min}
 use lib.ListN.{length, take, drop}
 use Rattle.base.proofs.Lists.{part-kept}
@@ -44,9 +42,11 @@ returns : tie.Need-returns
 unfolding partFrom
 returns c = let a = c .before .before .before .before .before .before .args in
     let s = now (a .trace) in
-    let from : c .before .before .place .result ≡ min (word s 32 + 2 * a .start) (length s) = cc in
-    let to : c .before .place2 .result ≡ min (min (word s 32 + 2 * a .start) (length s) + 2 * slotCount s (a .t)) (length s) = cc in
-    rw (from, to) (part-kept s (word s 32 + 2 * a .start) (2 * slotCount s (a .t)))
+    let from : c .before .before .place .result ≡ min (word s 32 + 2 * a .start) (length s) =
+    c .before .before .place .ensures ∙ ap (λ (n : ℕ). min (n + 2 * a .start) (length s)) (c .before .before .before .word .ensures) in
+    let to : c .before .place2 .result ≡ min (min (word s 32 + 2 * a .start) (length s) + 2 * slotCount s (a .t)) (length s) =
+    c .before .place2 .ensures ∙ ap₂ (λ (p n : ℕ). min (p + 2 * n) (length s)) from (c .before .before .before .before .slot-count .ensures) in
+    ap₂ (λ (p q : ℕ). take (q - p) (drop p s)) from to ∙ part-kept s (word s 32 + 2 * a .start) (2 * slotCount s (a .t))
 
 pub part-from-spec : {M : Type 1} → statement M
 part-from-spec =

@@ -4,6 +4,9 @@ use borrow.Author.Needs.{needs}
 use native.Mathlib.Omega.{arith}
 use mathlib.Core.Path.{_≡_, refl, sym, _∙_, ap}
 use denote.Ref.{now}
+use Prim.Native.Nat.{ℕ}
+use lib.Dec.{eqb}
+use Rattle.base.proofs.Refusal.{chained, tested}
 use Rattle.trace.proofs.HeaderLaws.{allowed, places-small}
 use Rattle.trace.specs.declared.Places.{Places}
 use Rattle.trace.specs.Header.{placesOf}
@@ -59,7 +62,13 @@ returns c = let a = c .before .before .before .before .before .before .before .b
     let nine = capacities-judged s (a .header) (a .places) (p .1) (p .2) in
     let ten = counts-judged s (a .header) (a .places) (p .1) (p .2) in
     let eleven = ports-judged s (a .header) (a .places) (p .1) (p .2) in
-    cc
+    let counted = c .before .before .before .before .before in
+    let allowed = counted .before .before in
+    chained (c .first2 .ensures)
+    (tested 9 (allowed .unless .ensures) (allowed .before .capacities-allowed .ensures ∙ nine))
+    (chained (c .before .first .ensures)
+    (tested 10 (counted .unless2 .ensures) (ap (λ (n : ℕ). eqb n (a .header .arrivals)) (counted .before .sum .ensures) ∙ ten))
+    (tested 11 (c .before .before .unless3 .ensures) (c .before .before .before .ports-below .ensures ∙ eleven)))
 
 pub tables-refusal-spec : {M : Type 1} → statement M
 tables-refusal-spec =

@@ -18,20 +18,34 @@ header-requires c κs = search needs
 
 table-requires : tie.Need-table-requires
 unfolding slotCountsAt
-table-requires c κs = omega (arith, lengths (c .before .before .before .before .before .before .before .before .before .args .header) (now (c .before .before .before .before .before .before .before .before .before .args .capacities)) (now (c .before .before .before .before .before .before .before .before .before .args .counts)) (now (c .before .before .before .before .before .before .before .before .before .args .ports)) (c .before .before .before .before .before .before .before .before .before .pre .2), places-small (c .before .before .before .before .before .before .before .before .before .args .header) (c .before .before .before .before .before .before .before .before .before .pre .0))
+table-requires c κs =
+    let start = c .before .before .before .before .before .before .before .before .before in
+    let a = start .args in
+    omega (
+      arith,
+      lengths (a .header) (now (a .capacities)) (now (a .counts)) (now (a .ports)) (start .pre .2),
+      places-small (a .header) (start .pre .0),
+    )
 
 cast-table : tie.Need-cast-table
 unfolding placesOf
-cast-table c = omega (arith, ap (λ (q : Places). q .counts) (c .before .before .before .before .before .before .before .before .before .before .before .before .before .before .pre .1), places-small (c .before .before .before .before .before .before .before .before .before .before .before .before .before .before .args .header) (c .before .before .before .before .before .before .before .before .before .before .before .before .before .before .pre .0))
+cast-table c =
+    let start = c .before .before .before .before .before .before .before .before .before .before .before .before .before .before in
+    omega (arith, ap (λ (q : Places). q .counts) (start .pre .1), places-small (start .args .header) (start .pre .0))
 
 table-requires-2 : tie.Need-table-requires-2
-table-requires-2 c κs = let l = lengths (c .before .before .before .before .before .before .before .before .before .before .before .before .before .before .args .header) (now (c .before .before .before .before .before .before .before .before .before .before .before .before .before .before .args .capacities)) (now (c .before .before .before .before .before .before .before .before .before .before .before .before .before .before .args .counts)) (now (c .before .before .before .before .before .before .before .before .before .before .before .before .before .before .args .ports)) (c .before .before .before .before .before .before .before .before .before .before .before .before .before .before .pre .2) in
-    let n : length (now (c .before .before .before .before .before .before .before .before .before .before .before .before .before .before .args .counts)) ≤ 65536 = omega (arith, l .of-counts, allowed (c .before .before .before .before .before .before .before .before .before .before .before .before .before .before .args .header) (c .before .before .before .before .before .before .before .before .before .before .before .before .before .before .pre .0)) in
+table-requires-2 c κs =
+    let start = c .before .before .before .before .before .before .before .before .before .before .before .before .before .before in
+    let a = start .args in
+    let l = lengths (a .header) (now (a .capacities)) (now (a .counts)) (now (a .ports)) (start .pre .2) in
+    let n : length (now (a .counts)) ≤ 65536 = omega (arith, l .of-counts, allowed (a .header) (start .pre .0)) in
     n
 
 cast-bytes : tie.Need-cast-bytes
 unfolding placesOf
-cast-bytes c = omega (arith, ap (λ (q : Places). q .arrivals) (c .before .before .before .before .before .before .before .before .before .before .before .before .before .before .before .before .before .before .before .pre .1), places-small (c .before .before .before .before .before .before .before .before .before .before .before .before .before .before .before .before .before .before .before .args .header) (c .before .before .before .before .before .before .before .before .before .before .before .before .before .before .before .before .before .before .before .pre .0))
+cast-bytes c =
+    let start = c .before .before .before .before .before .before .before .before .before .before .before .before .before .before .before .before .before .before .before in
+    omega (arith, ap (λ (q : Places). q .arrivals) (start .pre .1), places-small (start .args .header) (start .pre .0))
 
 bytes-requires : tie.Need-bytes-requires
 bytes-requires c κs = search needs
@@ -40,9 +54,20 @@ same-length : tie.Need-same-length
 same-length c = search needs
 
 returns : tie.Need-returns
-returns c = let a = c .before .before .before .before .before .before .before .before .before .before .before .before .before .before .before .before .before .before .before .before .before .before .args in
-    parts-stored (a .header) (now (a .capacities)) (now (a .counts)) (now (a .ports)) (lengths (c .before .before .before .before .before .before .before .before .before .before .before .before .before .before .before .before .before .before .before .before .before .before .args .header) (now (c .before .before .before .before .before .before .before .before .before .before .before .before .before .before .before .before .before .before .before .before .before .before .args .capacities)) (now (c .before .before .before .before .before .before .before .before .before .before .before .before .before .before .before .before .before .before .before .before .before .before .args .counts)) (now (c .before .before .before .before .before .before .before .before .before .before .before .before .before .before .before .before .before .before .before .before .before .before .args .ports)) (c .before .before .before .before .before .before .before .before .before .before .before .before .before .before .before .before .before .before .before .before .before .before .pre .2)) (a .places) (now (a .out)) _ _ _ _ (c .before .before .before .before .before .before .before .before .before .before .before .before .before .before .before .before .before .before .before .before .before .before .pre .1)
-    (c .before .before .before .before .before .before .before .before .before .before .before .before .before .before .before .before .header .ensures) (c .before .before .before .before .before .before .before .before .before .before .before .before .table .ensures) (c .before .before .before .before .before .before .before .table2 .ensures) (c .before .before .bytes .ensures)
+returns c =
+    let last = c .before .before in
+    let third = last .before .before .before .before .before in
+    let second = third .before .before .before .before .before in
+    let first = second .before .before .before .before in
+    let start = first .before .before .before .before .before .before in
+    let a = start .args in
+    parts-stored (a .header) (now (a .capacities)) (now (a .counts)) (now (a .ports))
+    (lengths (a .header) (now (a .capacities)) (now (a .counts)) (now (a .ports)) (start .pre .2))
+    (a .places) (now (a .out)) _ _ _ _ (start .pre .1)
+    (first .header .ensures)
+    (second .table .ensures)
+    (third .table2 .ensures)
+    (last .bytes .ensures)
 
 pub fill-spec : {M : Type 1} → statement M
 fill-spec =

@@ -1,6 +1,7 @@
 -- `trace::layout::header_refusal` meets its contract: each test is the definition's.
 -- Assumes nothing.
 use borrow.Author.Needs.{needs}
+use Rattle.base.proofs.Refusal.{chained, tested}
 use Rattle.trace.specs.Header.{headerRefusal, orderAllowed, countAllowed}
 use Rattle.trace.proofs.layout.header_refusal.Statement.{statement}
 use Rattle.trace.proofs.layout.header_refusal.Tie as tie
@@ -49,7 +50,21 @@ first-requires-5 c κs = search needs
 
 returns : tie.Need-returns
 unfolding headerRefusal orderAllowed countAllowed
-returns c = cc
+returns c =
+    let speedup = c .before .before .before .before .before .before .before .before .before in
+    let ports = speedup .before .before in
+    let order = ports .before .before in
+    chained (c .first5 .ensures)
+    (tested 2 (order .before .before .unless .ensures) (order .before .before .before .model-allowed .ensures))
+    (chained (c .before .first4 .ensures)
+    (order .unless2 .ensures)
+    (chained (c .before .before .first3 .ensures)
+    (tested 4 (ports .unless3 .ensures) (ports .before .side-allowed .ensures))
+    (chained (c .before .before .before .first2 .ensures)
+    (tested 5 (speedup .unless4 .ensures) (speedup .before .side-allowed2 .ensures))
+    (chained (c .before .before .before .before .first .ensures)
+    (c .before .before .before .before .before .before .before .unless5 .ensures)
+    (c .before .before .before .before .before .unless6 .ensures)))))
 
 pub header-refusal-spec : {M : Type 1} → statement M
 header-refusal-spec =

@@ -1,6 +1,8 @@
 -- `trace::layout::places` meets its contract.
 -- Assumes nothing.
 use borrow.Author.Needs.{needs}
+use Prim.Native.Nat.{ℕ, _+_, _*_}
+use mathlib.Core.Path.{ap}
 use Rattle.trace.specs.Header.{placesOf, slotCountsAt, arrivalsAt, totalOf}
 use Rattle.trace.proofs.layout.places.Statement.{statement}
 use Rattle.trace.proofs.layout.places.Tie as tie
@@ -34,7 +36,17 @@ add-t7 c = search needs
 
 returns : tie.Need-returns
 unfolding placesOf slotCountsAt arrivalsAt totalOf
-returns c = cc
+returns c =
+    let h = c .before .before .before .args .h in
+    ap
+    (λ (n : ℕ).
+    record {
+      capacities = n;
+      counts = 40 + 2 * n;
+      arrivals = 40 + 2 * n + 2 * h .slots;
+      total = 40 + 2 * n + 2 * h .slots + 2 * h .arrivals;
+    })
+    (c .before .before .capacity-count .ensures .0)
 
 pub places-spec : {M : Type 1} → statement M
 places-spec =

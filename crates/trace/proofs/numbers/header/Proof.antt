@@ -25,7 +25,18 @@ word-requires-6 c κs = search needs
 
 returns : tie.Need-returns
 unfolding headerOf
-returns c = cc
+returns c =
+    let speedup = c .before .before in
+    let order = speedup .before .before in
+    λ i.
+    record {
+      model = order .before .word .ensures i;
+      order = order .word2 .ensures i;
+      ports = speedup .before .word3 .ensures i;
+      speedup = speedup .word4 .ensures i;
+      slots = c .before .word5 .ensures i;
+      arrivals = c .word6 .ensures i;
+    }
 
 pub header-spec : {M : Type 1} → statement M
 header-spec =

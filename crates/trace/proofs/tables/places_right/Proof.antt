@@ -1,6 +1,10 @@
 -- `trace::tables::places_right` meets its contract.
 -- Assumes nothing.
 use borrow.Author.Needs.{needs}
+use Prim.Native.Nat.{ℕ}
+use mathlib.Core.Path.{refl, ap}
+use lib.Dec.{eqb}
+use Rattle.base.proofs.Below.{joined}
 use Rattle.trace.specs.Reading.{placesRight}
 use Rattle.trace.proofs.tables.places_right.Statement.{statement}
 use Rattle.trace.proofs.tables.places_right.Tie as tie
@@ -43,7 +47,15 @@ both-requires-4 c κs = search needs
 
 returns : tie.Need-returns
 unfolding placesRight
-returns c = cc
+returns c =
+    let p = c .before .before .before .before .before .before .before .before .before .before .before .before .before .args .places in
+    let total = c .before .before .before .before .before .before in
+    let arrivals = total .before .before in
+    let counts = arrivals .before .before in
+    joined (c .both4 .ensures) (ap (λ (n : ℕ). eqb n 40) (counts .before .word .ensures))
+    (joined (c .before .both3 .ensures) (ap (λ (n : ℕ). eqb n (p .counts)) (counts .word2 .ensures))
+    (joined (c .before .before .both2 .ensures) (ap (λ (n : ℕ). eqb n (p .arrivals)) (arrivals .word3 .ensures))
+    (joined (c .before .before .before .both .ensures) (ap (λ (n : ℕ). eqb n (p .total)) (total .word4 .ensures)) refl)))
 
 pub places-right-spec : {M : Type 1} → statement M
 places-right-spec =

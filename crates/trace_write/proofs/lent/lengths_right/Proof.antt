@@ -2,6 +2,10 @@
 -- Assumes nothing.
 use borrow.Author.Needs.{needs}
 use mathlib.Core.Path.{_≡_, refl, sym, _∙_, ap}
+use denote.Ref.{now}
+use lib.ListN.{length}
+use lib.Dec.{eqb}
+use Rattle.base.proofs.Below.{joined}
 use Rattle.trace.specs.declared.Places.{Places}
 use Rattle.trace.specs.Header.{placesOf}
 use Rattle.trace_write.specs.Writing.{lengthsRight}
@@ -25,7 +29,11 @@ both-requires-2 c κs = search needs
 
 returns : tie.Need-returns
 unfolding lengthsRight placesOf
-returns c = let p = ap (λ (q : Places). q .capacities) (c .before .before .before .before .before .before .before .before .pre .1) in cc
+returns c =
+    let start = c .before .before .before .before .before .before .before .before in
+    joined (c .both2 .ensures)
+    (ap (λ (q : Places). eqb (length (now (start .args .capacities))) (q .capacities)) (start .pre .1))
+    (c .before .both .ensures)
 
 pub lengths-right-spec : {M : Type 1} → statement M
 lengths-right-spec =

@@ -1,10 +1,8 @@
 -- `trace_write::lent::refusal` meets its contract.
 -- Assumes nothing.
 use borrow.Author.Needs.{needs}
-use mathlib.Core.Path.{_≡_, refl, sym, _∙_, ap}
-use Rattle.trace.specs.declared.Places.{Places}
-use Rattle.trace.specs.Header.{placesOf}
-use Rattle.trace_write.specs.Writing.{bodyRefusal}
+use denote.Ref.{now}
+use Rattle.trace_write.proofs.WritingLaws.{body-chained}
 use Rattle.trace_write.proofs.lent.refusal.Statement.{statement}
 use Rattle.trace_write.proofs.lent.refusal.Tie as tie
 
@@ -27,9 +25,17 @@ first-requires-2 : tie.Need-first-requires-2
 first-requires-2 c κs = search needs
 
 returns : tie.Need-returns
-unfolding bodyRefusal placesOf
-returns c = let p = ap (λ (q : Places). q .total) (c .before .before .before .before .before .before .before .before .before .before .pre .1) in
-    cc
+returns c =
+    let start = c .before .before .before .before .before .before .before .before .before .before in
+    let a = start .args in
+    let judged = c .before .before .before .before in
+    body-chained (a .header) (now (a .capacities)) (now (a .counts)) (now (a .ports)) (a .places) (a .room) (start .pre .1)
+    (judged .before .before .lengths-right .ensures)
+    (judged .before .unless .ensures)
+    (judged .tables-refusal .ensures)
+    (c .before .before .unless2 .ensures)
+    (c .before .first .ensures)
+    (c .first2 .ensures)
 
 pub refusal-spec : {M : Type 1} → statement M
 refusal-spec =

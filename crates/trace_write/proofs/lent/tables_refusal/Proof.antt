@@ -4,9 +4,14 @@ use borrow.Author.Needs.{needs}
 use native.Mathlib.Omega.{arith}
 use mathlib.Core.Path.{_≡_, refl, sym, _∙_, ap}
 use denote.Ref.{now}
+use Prim.Native.Nat.{ℕ}
+use lib.ListN.{getD}
+use lib.Dec.{eqb}
+use Rattle.base.specs.Below.{allBelow}
+use Rattle.base.proofs.Refusal.{chained, tested}
 use Rattle.trace.specs.declared.Places.{Places}
 use Rattle.trace.specs.Header.{placesOf}
-use Rattle.trace.specs.Tables.{tablesRefusal, capacitiesAllowed, countsAddUp, portsBelow}
+use Rattle.trace.specs.Tables.{capacityAllowed, tablesRefusal, capacitiesAllowed, countsAddUp, portsBelow}
 use Rattle.trace.proofs.HeaderLaws.{allowed}
 use Rattle.trace_write.specs.Writing.{lentRefusal}
 use Rattle.trace_write.proofs.lent.tables_refusal.Statement.{statement}
@@ -47,8 +52,17 @@ first-requires-2 c κs = search needs
 
 returns : tie.Need-returns
 unfolding lentRefusal tablesRefusal capacitiesAllowed countsAddUp portsBelow placesOf
-returns c = let p = ap (λ (q : Places). q .capacities) (c .before .before .before .before .before .before .before .before .before .before .before .before .before .pre .1) in
-    cc
+returns c =
+    let start = c .before .before .before .before .before .before .before .before .before .before .before .before .before in
+    let counted = c .before .before .before .before in
+    let allowed = counted .before .before in
+    chained (c .first2 .ensures)
+    (tested 9 (allowed .unless .ensures)
+    (allowed .before .capacities-allowed .ensures
+    ∙ ap (λ (q : Places). allBelow (λ k. capacityAllowed (getD (now (start .args .capacities)) k 0)) (q .capacities)) (start .pre .1)))
+    (chained (c .before .first .ensures)
+    (tested 10 (counted .unless2 .ensures) (ap (λ (n : ℕ). eqb n (start .args .header .arrivals)) (counted .before .sum .ensures)))
+    (tested 11 (c .before .before .unless3 .ensures) (c .before .before .before .ports-below .ensures)))
 
 pub tables-refusal-spec : {M : Type 1} → statement M
 tables-refusal-spec =

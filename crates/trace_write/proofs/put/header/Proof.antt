@@ -4,6 +4,9 @@ use borrow.Author.Needs.{needs}
 use native.Mathlib.Omega.{arith}
 use mathlib.Core.Path.{_≡_, refl, sym, _∙_, ap}
 use denote.Ref.{now}
+use mathlib.Core.List.{[], _∷_}
+use lib.Seq.{sets}
+use Rattle.base.specs.Digits.{spell}
 use Rattle.trace.specs.declared.Places.{Places}
 use Rattle.trace.specs.Header.{placesOf}
 use Rattle.trace.proofs.HeaderLaws.{places-small}
@@ -34,11 +37,17 @@ same-length c = search needs
 
 returns : tie.Need-returns
 unfolding headerWords placesOf
-returns c = let e = c .before .before .before .before .before .before .before .before .before .pre .1 in
-    let p = ap (λ (q : Places). q .counts) e in
-    let q = ap (λ (q : Places). q .arrivals) e in
-    let r = ap (λ (q : Places). q .total) e in
-    c .before .before .words .ensures ∙ (cc)
+returns c =
+    let start = c .before .before .before .before .before .before .before .before .before in
+    let h = start .args .h in
+    c .before .before .words .ensures
+    ∙ ap
+    (λ (q : Places).
+    sets (now (start .args .out)) 0
+    (spell 4
+    (h .model
+    ∷ (h .order ∷ (h .ports ∷ (h .speedup ∷ (h .slots ∷ (h .arrivals ∷ (40 ∷ (q .counts ∷ (q .arrivals ∷ (q .total ∷ []))))))))))))
+    (start .pre .1)
 
 pub header-spec : {M : Type 1} → statement M
 header-spec =
