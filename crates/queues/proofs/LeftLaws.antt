@@ -12,8 +12,7 @@ use Rattle.queues.specs.Lent.{Left, Held, LeftAll}
 
 pub left-one : {f : Flow} {log : List ℕ} {at : ℕ} {from from′ to to′ kept kept′ : List ℕ} {r r′ : Went} → Left f from to log kept at r → Left f from′ to′ log kept′ at r′ → _≡_ {A = Went × List ℕ × List ℕ × List ℕ} (r, from, to, kept) (r′, from′, to′, kept′)
 left-one x y =
-    λ i.
-    (
+    λ i. (
       record { at = determined (x .of-at) (y .of-at) i; moved = determined (x .of-moved) (y .of-moved) i },
       determined (x .of-from) (y .of-from) i,
       determined (x .of-to) (y .of-to) i,
@@ -22,8 +21,7 @@ left-one x y =
 
 pub left-all-one : {d : Done} {log : List ℕ} {at : ℕ} {inlen inlen′ outlen outlen′ crosslen crosslen′ kept kept′ : List ℕ} {r r′ : ℕ} → LeftAll d inlen outlen crosslen log kept at r → LeftAll d inlen′ outlen′ crosslen′ log kept′ at r′ → _≡_ {A = ℕ × List ℕ × List ℕ × List ℕ × List ℕ} (r, inlen, outlen, crosslen, kept) (r′, inlen′, outlen′, crosslen′, kept′)
 left-all-one x y =
-    λ i.
-    (
+    λ i. (
       determined (x .of-at) (y .of-at) i,
       determined (x .of-inlen) (y .of-inlen) i,
       determined (x .of-outlen) (y .of-outlen) i,

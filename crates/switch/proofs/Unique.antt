@@ -21,7 +21,7 @@ holds-one κs a x y d e p q =
     record {
       inputs = determined (p .0 .0) (q .0 .0) i;
       outputs = determined (p .0 .1) (q .0 .1) i;
-      crosspoints = determined (p .0 .2) (q .0 .2) i
+      crosspoints = determined (p .0 .2) (q .0 .2) i;
     }
 
 pub refusal-one : OneAnswer 0 refusal-kinds.ps refusal-kinds.r refusal.Post
