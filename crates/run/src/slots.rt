@@ -65,7 +65,7 @@ fn one_slot(
     }
 }
 
-pub fn all_slots(trace: &[u8], s: Switch, slots: u32, log: &mut [u32]) -> Ended
+pub(crate) fn all_slots(trace: &[u8], s: Switch, slots: u32, log: &mut [u32]) -> Ended
     requires { ⌜ (reading (now trace) ≡ 0) × (s ≡ fresh (now trace)) × (slots ≡ headerOf (now trace) .slots) ⌝ }
     ensures { λ r. ⌜ (r .queues ≡ whole (now (trace .entry)) .switch .queues) × (r .dropped ≡ whole (now (trace .entry)) .switch .dropped) × (now (log .exit) ≡ logged (now (log .entry)) 0 (logOf (whole (now (trace .entry)) .events))) ⌝ }
 {

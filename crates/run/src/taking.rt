@@ -36,7 +36,7 @@ fn take_one(
 }
 
 // All arrivals of a part, two bytes each.
-pub fn take_all(
+pub(crate) fn take_all(
     part: &[u8],
     slot: u32,
     incap: &[u32],

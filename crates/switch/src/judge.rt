@@ -11,7 +11,7 @@ ghost use Rattle.base.specs.Below.{allBelow};
 ghost use Rattle.switch.specs.Allowed.{usedPair, queueAllowed, queuesAllowed, countsAgree, switchAllowed};
 
 // Whether N ports use place k of those for pairs.
-pub fn used_pair(ports: u32, k: usize) -> bool
+pub(crate) fn used_pair(ports: u32, k: usize) -> bool
     ensures { λ r. ⌜ r ≡ usedPair ports k ⌝ }
 {
     base::both(k / 16 < ports as usize, k % 16 < ports as usize)
@@ -101,7 +101,7 @@ fn counts_agree(s: Switch) -> bool
     )
 }
 
-pub fn allowed(s: Switch) -> bool
+pub(crate) fn allowed(s: Switch) -> bool
     ensures { λ r. ⌜ r ≡ switchAllowed s ⌝ }
 {
     let q = s.queues;

@@ -101,13 +101,13 @@ fn unused(model: u32, order: u32, ports: u32, speedup: u32, queues: Queues) -> S
     }
 }
 
-pub fn nought() -> Switch
+pub(crate) fn nought() -> Switch
     ensures { λ r. ⌜ r ≡ nought ⌝ }
 {
     unused(0, 0, 0, 0, empty_queues([0; 256], [0; 16], [0; 256]))
 }
 
-pub fn fresh(trace: &[u8], header: Header) -> Switch
+pub(crate) fn fresh(trace: &[u8], header: Header) -> Switch
     requires { ⌜ (reading (now trace) ≡ 0) × (header ≡ headerOf (now trace)) ⌝ }
     ensures { λ r. ⌜ r ≡ fresh (now (trace .entry)) ⌝ }
 {

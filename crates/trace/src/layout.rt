@@ -6,14 +6,14 @@ ghost use mathlib.Core.Path.{_≡_};
 ghost use Prim.Native.Nat.{_≤_};
 ghost use Rattle.trace.specs.Header.{modelAllowed, sideAllowed, headerRefusal, capacityCount, placesOf, laidOut};
 
-pub fn model_allowed(m: u32) -> bool
+pub(crate) fn model_allowed(m: u32) -> bool
     ensures { λ r. ⌜ r ≡ modelAllowed m ⌝ }
 {
     m == 1 || m == 2
 }
 
 // Ports and speedup alike: 1 to 16.
-pub fn side_allowed(n: u32) -> bool
+pub(crate) fn side_allowed(n: u32) -> bool
     ensures { λ r. ⌜ r ≡ sideAllowed n ⌝ }
 {
     base::both(1 <= n, n <= 16)
@@ -63,7 +63,7 @@ fn places(h: Header) -> Places
     }
 }
 
-pub fn lay_out(h: Header) -> LaidOut
+pub(crate) fn lay_out(h: Header) -> LaidOut
     ensures { λ r. ⌜ r ≡ laidOut h ⌝ }
 {
     let n = header_refusal(h);

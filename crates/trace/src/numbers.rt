@@ -5,7 +5,7 @@ ghost use Prim.Native.Nat.{_+_, _*_, _<_, min};
 ghost use Rattle.base.specs.Digits.{byte};
 ghost use Rattle.trace.specs.Reading.{half, word, headerOf};
 
-pub fn byte(s: &[u8], p: usize) -> u32
+pub(crate) fn byte(s: &[u8], p: usize) -> u32
     ensures { λ r. ⌜ (r ≡ byte (now (s .entry)) p) × (r < 256) ⌝ }
 {
     if p < s.len() {
@@ -14,7 +14,7 @@ pub fn byte(s: &[u8], p: usize) -> u32
     0
 }
 
-pub fn half(s: &[u8], p: usize) -> u32
+pub(crate) fn half(s: &[u8], p: usize) -> u32
     ensures { λ r. ⌜ (r ≡ half (now (s .entry)) p) × (r < 65536) ⌝ }
 {
     if s.len() <= p {
@@ -23,7 +23,7 @@ pub fn half(s: &[u8], p: usize) -> u32
     byte(s, p) + 256 * byte(s, p + 1)
 }
 
-pub fn word(s: &[u8], p: usize) -> u32
+pub(crate) fn word(s: &[u8], p: usize) -> u32
     ensures { λ r. ⌜ r ≡ word (now (s .entry)) p ⌝ }
 {
     if s.len() <= p {
@@ -33,7 +33,7 @@ pub fn word(s: &[u8], p: usize) -> u32
 }
 
 // The place 2 × k past `at`, or the end n where that comes first.
-pub fn place(n: usize, at: usize, k: usize) -> usize
+pub(crate) fn place(n: usize, at: usize, k: usize) -> usize
     ensures { λ r. ⌜ r ≡ min (at + 2 * k) n ⌝ }
 {
     if n <= at {
@@ -46,13 +46,13 @@ pub fn place(n: usize, at: usize, k: usize) -> usize
 }
 
 // Entry k of a table of 16-bit numbers that starts at `at`.
-pub fn entry(s: &[u8], at: usize, k: usize) -> u32
+pub(crate) fn entry(s: &[u8], at: usize, k: usize) -> u32
     ensures { λ r. ⌜ (r ≡ half (now (s .entry)) (at + 2 * k)) × (r < 65536) ⌝ }
 {
     half(s, place(s.len(), at, k))
 }
 
-pub fn header(s: &[u8]) -> Header
+pub(crate) fn header(s: &[u8]) -> Header
     ensures { λ r. ⌜ r ≡ headerOf (now (s .entry)) ⌝ }
 {
     Header {

@@ -10,7 +10,7 @@ ghost use Rattle.trace.specs.Tables.{capacityAllowed};
 ghost use Rattle.trace.specs.Reading.{half, placesRight};
 
 // Whether the offsets and the total stand in the header as the counts make them, and the slice ends there.
-pub fn places_right(trace: &[u8], places: Places) -> bool
+pub(crate) fn places_right(trace: &[u8], places: Places) -> bool
     ensures { λ r. ⌜ r ≡ placesRight (now (trace .entry)) places ⌝ }
 {
     let capacities = numbers::word(trace, 24) as usize == 40;
@@ -25,14 +25,14 @@ pub fn places_right(trace: &[u8], places: Places) -> bool
 }
 
 // 1 to 1,024.
-pub fn capacity_allowed(c: u32) -> bool
+pub(crate) fn capacity_allowed(c: u32) -> bool
     ensures { λ r. ⌜ r ≡ capacityAllowed c ⌝ }
 {
     base::both(1 <= c, c <= 1024)
 }
 
 // Whether each of the `count` capacities from `at` on is allowed.
-pub fn capacities_allowed(trace: &[u8], at: usize, count: usize) -> bool
+pub(crate) fn capacities_allowed(trace: &[u8], at: usize, count: usize) -> bool
     ensures { λ r. ⌜ r ≡ allBelow (λ k. capacityAllowed (half (now (trace .entry)) (at + 2 * k))) count ⌝ }
 {
     let mut k = 0;
@@ -46,7 +46,7 @@ pub fn capacities_allowed(trace: &[u8], at: usize, count: usize) -> bool
 }
 
 // The sum of the first `slots` of the counts from `at` on.
-pub fn sum(trace: &[u8], at: usize, slots: u16) -> usize
+pub(crate) fn sum(trace: &[u8], at: usize, slots: u16) -> usize
     ensures { λ r. ⌜ r ≡ sumBelow (λ t. half (now (trace .entry)) (at + 2 * t)) slots ⌝ }
 {
     let end = slots as usize;
@@ -60,7 +60,7 @@ pub fn sum(trace: &[u8], at: usize, slots: u16) -> usize
 }
 
 // Whether each of the `count` ports from `at` on is below n.
-pub fn ports_below(trace: &[u8], at: u32, count: u32, n: u32) -> bool
+pub(crate) fn ports_below(trace: &[u8], at: u32, count: u32, n: u32) -> bool
     ensures { λ r. ⌜ r ≡ allBelow (λ b. ltb (byte (now (trace .entry)) (at + b)) n) count ⌝ }
 {
     let from = at as usize;

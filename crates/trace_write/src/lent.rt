@@ -108,7 +108,7 @@ fn tables_refusal(
 }
 
 // The refusals 17, 9, 10, 11, 18, of a header whose numbers are allowed.
-pub fn refusal(
+pub(crate) fn refusal(
     header: Header,
     places: Places,
     capacities: &[u16],

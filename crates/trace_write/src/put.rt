@@ -47,7 +47,7 @@ fn words(out: &mut [u8], numbers: &[u32])
 }
 
 // The ten words of the header.
-pub fn header(out: &mut [u8], h: Header, places: Places)
+pub(crate) fn header(out: &mut [u8], h: Header, places: Places)
     requires { ⌜ (headerRefusal h ≡ 0) × (places ≡ placesOf h) ⌝ }
     ensures { λ _. ⌜ now (out .exit) ≡ sets (now (out .entry)) 0 (spell 4 (headerWords h)) ⌝ }
 {
@@ -70,7 +70,7 @@ pub fn header(out: &mut [u8], h: Header, places: Places)
 }
 
 // A table of 16-bit numbers.
-pub fn table(out: &mut [u8], at: u16, numbers: &[u16])
+pub(crate) fn table(out: &mut [u8], at: u16, numbers: &[u16])
     requires { ⌜ length (now numbers) ≤ 65536 ⌝ }
     ensures { λ _. ⌜ now (out .exit) ≡ sets (now (out .entry)) at (spell 2 (now (numbers .entry))) ⌝ }
 {
@@ -83,7 +83,7 @@ pub fn table(out: &mut [u8], at: u16, numbers: &[u16])
 }
 
 // A table of bytes.
-pub fn bytes(out: &mut [u8], at: u32, table: &[u8])
+pub(crate) fn bytes(out: &mut [u8], at: u32, table: &[u8])
     ensures { λ _. ⌜ now (out .exit) ≡ sets (now (out .entry)) at (now (table .entry)) ⌝ }
 {
     let p = at as usize;
