@@ -1,0 +1,3 @@
+pub mod CarryLaws
+pub mod LibraryLaws
+pub mod Unique
