@@ -12,7 +12,7 @@ use borrow.Author.Tests.{eq-eqb, le-leb}
 use Rattle.base.specs.Refusal.{unless, _⨟_}
 use Rattle.base.proofs.Refusal.{passed}
 use Rattle.trace.specs.Reading.{headerOf, reading}
-use Rattle.trace.proofs.HeaderLaws.{allowed}
+use Rattle.layout.proofs.HeaderLaws.{allowed}
 use Rattle.trace.proofs.ReadingLaws.{whole as read-whole}
 use Rattle.switch.specs.declared.Switch.{Switch}
 use Rattle.switch.specs.declared.Drain.the-variants.{Empty}

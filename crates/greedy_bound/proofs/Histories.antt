@@ -10,10 +10,10 @@ use mathlib.Core.List.{List, []}
 use lib.ListN.{getD-replicate}
 use lib.Dec.{ltb}
 use borrow.Author.Tests.{ltb-true, lt-ltb, le-ltb}
-use Rattle.trace.specs.Header.{hasCrosspoints}
+use Rattle.layout.specs.Header.{hasCrosspoints}
 use Rattle.trace.specs.Reading.{headerOf, slotCount, reading}
 use Rattle.trace.specs.Slots.{arrivalOf, before}
-use Rattle.trace.proofs.HeaderLaws.{allowed}
+use Rattle.layout.proofs.HeaderLaws.{allowed}
 use Rattle.trace.proofs.ReadingLaws.{whole as read-whole}
 use Rattle.queues.specs.Queues.{place}
 use Rattle.slot_laws.proofs.QueueLengths.{place-below}

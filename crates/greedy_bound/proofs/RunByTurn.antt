@@ -6,7 +6,7 @@ use mathlib.Core.Path.{_≡_, refl, sym, ap, ap₂, _∙_}
 use mathlib.Core.Bool.{Bool, cond}
 use mathlib.Core.List.{List}
 use borrow.Author.Tests.{lt-ltb}
-use Rattle.trace.specs.Header.{hasCrosspoints}
+use Rattle.layout.specs.Header.{hasCrosspoints}
 use Rattle.trace.specs.Reading.{headerOf, slotCount, reading}
 use Rattle.trace.specs.Slots.{before}
 use Rattle.queues.specs.Slot.{free}

@@ -6,7 +6,7 @@ use mathlib.Core.Path.{_≡_, ap, _∙_}
 use mathlib.Core.List.{List, []}
 use borrow.Author.Tests.{le-ltb}
 use denote.Ref.{RefT, now}
-use Rattle.trace.specs.declared.Header.{Header}
+use Rattle.layout.specs.declared.Header.{Header}
 use Rattle.trace.specs.declared.Standing.the-variants.{Arrivals, NoMore, Refused}
 use Rattle.trace.specs.declared.Verdict.the-variants.{Accepted, Refused as Bad}
 use Rattle.trace.specs.Reading.{verdict}

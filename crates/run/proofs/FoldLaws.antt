@@ -14,7 +14,7 @@ use lib.Seq.{getD-take, getD-drop, length-take-le}
 use Rattle.base.specs.Below.{sumBelow}
 use Rattle.base.specs.Digits.{byte}
 use Rattle.trace.specs.declared.Ports.{Ports}
-use Rattle.trace.specs.Header.{hasCrosspoints, placesOf, arrivalsAt, totalOf}
+use Rattle.layout.specs.Header.{hasCrosspoints, placesOf, arrivalsAt, totalOf}
 use Rattle.trace.specs.Reading.{word, headerOf, slotCount, portByte, reading}
 use Rattle.trace.specs.Slots.{arrivalOf, before, partFrom}
 use Rattle.trace.proofs.ReadingLaws.{whole, right}

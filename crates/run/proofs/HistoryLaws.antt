@@ -17,10 +17,10 @@ use Rattle.base.specs.Refusal.{unless}
 use Rattle.base.proofs.Below.{all-at}
 use Rattle.base.proofs.Order.{le-or-lt}
 use Rattle.base.proofs.Refusal.{passed}
-use Rattle.trace.specs.Tables.{portsBelow}
+use Rattle.layout.specs.Tables.{portsBelow}
 use Rattle.trace.specs.Reading.{headerOf, slotCount, portByte, reading}
 use Rattle.trace.specs.Slots.{arrivalOf, before}
-use Rattle.trace.proofs.HeaderLaws.{allowed}
+use Rattle.layout.proofs.HeaderLaws.{allowed}
 use Rattle.trace.proofs.ReadingLaws.{whole}
 use Rattle.trace.proofs.SlotsLaws.{slots-few}
 use Rattle.slot_laws.proofs.Balance.{Sized, Bounded}

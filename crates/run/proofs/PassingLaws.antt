@@ -7,10 +7,10 @@ use mathlib.Core.Path.{_≡_, refl, sym, ap, _∙_, subst}
 use mathlib.Core.Bool.{Bool}
 use mathlib.Core.List.{List}
 use lib.ListN.{length, getD}
-use Rattle.trace.specs.Header.{hasCrosspoints}
+use Rattle.layout.specs.Header.{hasCrosspoints}
 use Rattle.trace.specs.Reading.{headerOf, slotCount, reading}
 use Rattle.trace.specs.Slots.{before, partFrom}
-use Rattle.trace.proofs.HeaderLaws.{allowed}
+use Rattle.layout.proofs.HeaderLaws.{allowed}
 use Rattle.trace.proofs.ReadingLaws.{whole}
 use Rattle.queues.specs.declared.Queues.{Queues}
 use Rattle.queues.specs.Events.{logOf, ofKind}

@@ -6,7 +6,7 @@ use switch::Switch;
 ghost use mathlib.Core.Path.{_≡_};
 ghost use Prim.Native.Nat.{_≤_, _/_};
 ghost use lib.ListN.{length};
-ghost use Rattle.trace.specs.Header.{hasCrosspoints};
+ghost use Rattle.layout.specs.Header.{hasCrosspoints};
 ghost use Rattle.trace.specs.Reading.{headerOf, reading};
 ghost use Rattle.queues.specs.declared.Queues.{Queues};
 ghost use Rattle.queues.specs.Events.{logOf, ofKind};

@@ -5,8 +5,8 @@ use mathlib.Core.Path.{_≡_}
 use mathlib.Core.Bool.{true, _&&_}
 use borrow.Author.Tests.{leb-true, eqb-true}
 use Rattle.base.proofs.Below.{both-true}
-use Rattle.trace.specs.Header.{modelAllowed, orderAllowed}
-use Rattle.trace.proofs.HeaderLaws.{side-small}
+use Rattle.layout.specs.Header.{modelAllowed, orderAllowed}
+use Rattle.layout.proofs.HeaderLaws.{side-small}
 use Rattle.switch.specs.declared.Switch.{Switch}
 use Rattle.switch.specs.Switch.{heldOut, heldCross, held}
 use Rattle.switch.specs.Allowed.{queuesAllowed, countsAgree, switchAllowed}

@@ -8,7 +8,7 @@ use mathlib.Core.Path.{_≡_}
 use mathlib.Core.Logic.{⊎-elim}
 use mathlib.Core.Bool.{true}
 use Rattle.base.proofs.Order.{le-or-lt}
-use Rattle.trace.specs.Header.{hasCrosspoints}
+use Rattle.layout.specs.Header.{hasCrosspoints}
 use Rattle.queues.specs.declared.Queues.{Queues}
 use Rattle.queues.specs.Events.{ofKind}
 use Rattle.queues.specs.Turn.{turn}

@@ -14,10 +14,10 @@ use Rattle.base.specs.Below.{listBelow}
 use Rattle.base.proofs.Below.{both-true, all-at}
 use Rattle.base.proofs.Listed.{length-listed, listed-at}
 use Rattle.base.proofs.Sums.{total, sum-zero}
-use Rattle.trace.specs.Header.{orderAllowed, hasCrosspoints, capacityCount}
-use Rattle.trace.specs.Tables.{capacityAllowed, capacitiesAllowed}
+use Rattle.layout.specs.Header.{orderAllowed, hasCrosspoints, capacityCount}
+use Rattle.layout.specs.Tables.{capacityAllowed, capacitiesAllowed}
 use Rattle.trace.specs.Reading.{headerOf, capacity, reading}
-use Rattle.trace.proofs.HeaderLaws.{allowed}
+use Rattle.layout.proofs.HeaderLaws.{allowed}
 use Rattle.trace.proofs.ReadingLaws.{whole}
 use Rattle.slot_laws.proofs.Balance.{Sized}
 use Rattle.switch.specs.Switch.{packets, heldIn, heldOut, heldCross, heldAll, held}

@@ -10,7 +10,7 @@ use mathlib.Core.List.{List}
 use lib.Dec.{leb}
 use borrow.Author.Tests.{le-leb, eq-eqb}
 use Rattle.base.proofs.Sums.{total}
-use Rattle.trace.specs.Header.{sideAllowed, hasCrosspoints}
+use Rattle.layout.specs.Header.{sideAllowed, hasCrosspoints}
 use Rattle.queues.specs.declared.Queues.{Queues}
 use Rattle.queues.specs.Events.{ofKind}
 use Rattle.queues.specs.Turn.{turn}

@@ -8,11 +8,11 @@ use mathlib.Core.List.{List}
 use lib.ListN.{replicate}
 use Rattle.base.specs.Below.{listBelow}
 use Rattle.base.proofs.Listed.{listed-zeros}
-use Rattle.trace.specs.declared.Header.{Header}
-use Rattle.trace.specs.Header.{hasCrosspoints}
+use Rattle.layout.specs.declared.Header.{Header}
+use Rattle.layout.specs.Header.{hasCrosspoints}
 use Rattle.trace.specs.Reading.{headerOf, reading, verdictOf, verdict}
 use Rattle.trace.specs.declared.Verdict.the-variants.{Accepted, Refused as VerdictRefused}
-use Rattle.trace.proofs.HeaderLaws.{allowed}
+use Rattle.layout.proofs.HeaderLaws.{allowed}
 use Rattle.trace.proofs.ReadingLaws.{whole}
 use Rattle.switch.specs.Allowed.{usedPair}
 use Rattle.switch.specs.Making.{capacityOfPair, inputCapacities, outputCapacities, crosspointCapacities, emptyQueues, unused, fresh, nought, madeAs, made}

@@ -15,8 +15,8 @@ use Rattle.base.specs.Below.{allBelow}
 use Rattle.base.proofs.Below.{both-true, all-at}
 use Rattle.base.proofs.Cases.{true-or-false}
 use Rattle.base.proofs.Order.{le-or-lt}
-use Rattle.trace.specs.Header.{hasCrosspoints}
-use Rattle.trace.specs.Tables.{capacityAllowed}
+use Rattle.layout.specs.Header.{hasCrosspoints}
+use Rattle.layout.specs.Tables.{capacityAllowed}
 use Rattle.queues.specs.declared.Queues.{Queues}
 use Rattle.queues.specs.Queues.{place}
 use Rattle.slot_laws.proofs.QueueLengths.{Within, Alike, inside, place-input, place-output, place-below}

@@ -8,7 +8,7 @@ use mathlib.Core.List.{List}
 use lib.ListN.{take}
 use borrow.Author.Tests.{ltb-true}
 use Rattle.base.proofs.Refusal.{unless-zero, chain-zero}
-use Rattle.trace.specs.Header.{hasCrosspoints}
+use Rattle.layout.specs.Header.{hasCrosspoints}
 use Rattle.queues.specs.declared.Queues.{Queues}
 use Rattle.queues.specs.Turn.{turn, turnPlaces}
 use Rattle.queues.specs.Slot.{Done, closing}

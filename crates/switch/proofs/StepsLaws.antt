@@ -10,7 +10,7 @@ use lib.Dec.{ltb}
 use borrow.Author.Tests.{ltb-true}
 use Rattle.base.proofs.Below.{both-true}
 use Rattle.base.proofs.Refusal.{unless-zero, chain-zero}
-use Rattle.trace.specs.Header.{hasCrosspoints}
+use Rattle.layout.specs.Header.{hasCrosspoints}
 use Rattle.queues.specs.declared.Queues.{Queues}
 use Rattle.queues.specs.Queues.{place, hasRoom, more, lengths}
 use Rattle.queues.specs.Events.{Event, acceptedAt, droppedAt, ofKind}

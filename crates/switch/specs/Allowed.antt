@@ -4,8 +4,8 @@ use mathlib.Core.Bool.{Bool, true, false, _&&_}
 use lib.ListN.{getD}
 use lib.Dec.{leb, ltb, eqb}
 use Rattle.base.specs.Below.{allBelow}
-use Rattle.trace.specs.Header.{modelAllowed, orderAllowed, sideAllowed, hasCrosspoints}
-use Rattle.trace.specs.Tables.{capacityAllowed}
+use Rattle.layout.specs.Header.{modelAllowed, orderAllowed, sideAllowed, hasCrosspoints}
+use Rattle.layout.specs.Tables.{capacityAllowed}
 use Rattle.queues.specs.declared.Queues.{Queues}
 use Rattle.switch.specs.declared.Switch.{Switch}
 use Rattle.switch.specs.Switch.{heldOut, heldCross, held}

@@ -6,8 +6,8 @@ use mathlib.Core.List.{List}
 use lib.ListN.{replicate}
 use lib.Dec.{ltb}
 use Rattle.base.specs.Below.{listBelow}
-use Rattle.trace.specs.declared.Header.{Header}
-use Rattle.trace.specs.Header.{hasCrosspoints}
+use Rattle.layout.specs.declared.Header.{Header}
+use Rattle.layout.specs.Header.{hasCrosspoints}
 use Rattle.trace.specs.Reading.{headerOf, capacity, reading}
 use Rattle.queues.specs.declared.Queues.{Queues}
 use Rattle.switch.specs.declared.Switch.{Switch}

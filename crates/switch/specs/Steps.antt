@@ -4,7 +4,7 @@ use Prim.Native.Nat.{ℕ, zero, suc, _+_}
 use mathlib.Core.Bool.{Bool, true, false, _&&_}
 use lib.Dec.{ltb}
 use Rattle.base.specs.Refusal.{unless, _⨟_}
-use Rattle.trace.specs.Header.{hasCrosspoints}
+use Rattle.layout.specs.Header.{hasCrosspoints}
 use Rattle.queues.specs.Queues.{place, hasRoom}
 use Rattle.queues.specs.Turn.{turn}
 use Rattle.queues.specs.Slot.{arrival, closing}

@@ -4,7 +4,7 @@ use mathlib.Core.Bool.{Bool, true, false}
 use mathlib.Core.List.{List}
 use lib.ListN.{getD}
 use Rattle.base.specs.Below.{sumBelow}
-use Rattle.trace.specs.Header.{hasCrosspoints}
+use Rattle.layout.specs.Header.{hasCrosspoints}
 use Rattle.queues.specs.declared.Queues.{Queues}
 use Rattle.queues.specs.Events.{ofKind}
 use Rattle.queues.specs.Slot.{Done}

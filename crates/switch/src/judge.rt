@@ -21,7 +21,7 @@ fn queue_allowed(used: bool, cap: u32, len: u32) -> bool
     ensures { λ r. ⌜ r ≡ queueAllowed used cap len ⌝ }
 {
     if used {
-        return base::both(trace::capacity_allowed(cap), len <= cap);
+        return base::both(layout::capacity_allowed(cap), len <= cap);
     }
     base::both(cap == 0, len == 0)
 }
@@ -105,10 +105,10 @@ pub(crate) fn allowed(s: Switch) -> bool
     ensures { λ r. ⌜ r ≡ switchAllowed s ⌝ }
 {
     let q = s.queues;
-    let model = trace::model_allowed(s.model);
+    let model = layout::model_allowed(s.model);
     let order = s.order <= 2;
-    let ports = trace::side_allowed(s.ports);
-    let speedup = trace::side_allowed(s.speedup);
+    let ports = layout::side_allowed(s.ports);
+    let speedup = layout::side_allowed(s.speedup);
     let queues = queues_allowed(s.model, s.ports, q);
     let arrived = s.arrived <= 4096;
     let slot = s.slot <= 8192;

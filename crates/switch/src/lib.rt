@@ -9,7 +9,7 @@ ghost use Prim.Native.Nat.{_+_, _<_, _≤_};
 ghost use lib.ListN.{getD};
 ghost use Rattle.base.specs.Refusal.{unless};
 ghost use lib.Dec.{eqb};
-ghost use Rattle.trace.specs.Header.{hasCrosspoints};
+ghost use Rattle.layout.specs.Header.{hasCrosspoints};
 ghost use Rattle.queues.specs.Queues.{more, lengths};
 ghost use Rattle.queues.specs.Turn.{turn};
 ghost use Rattle.queues.specs.Slot.{closing};

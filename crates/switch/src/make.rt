@@ -1,7 +1,7 @@
 // The capacities of a new switch, out of a trace (document 01, "The trace file").
 use crate::Switch;
+use layout::Header;
 use queues::Queues;
-use trace::Header;
 ghost use mathlib.Core.Path.{_≡_};
 ghost use mathlib.Core.Bool.{_&&_, cond};
 ghost use Prim.Native.Nat.{_≤_, _+_, _*_};

@@ -10,10 +10,10 @@ use lib.ListN.{length}
 use lib.Dec.{eqb}
 use borrow.Author.Tests.{eqb-true, eq-eqb}
 use Rattle.base.proofs.Refusal.{chain-zero, passed}
-use Rattle.trace.specs.declared.Header.{Header}
-use Rattle.trace.specs.declared.Places.{Places}
-use Rattle.trace.specs.Header.{modelAllowed, headerRefusal, placesOf, totalOf, arrivalsAt, slotCountsAt}
-use Rattle.trace.specs.Tables.{tablesRefusal}
+use Rattle.layout.specs.declared.Header.{Header}
+use Rattle.layout.specs.declared.Places.{Places}
+use Rattle.layout.specs.Header.{modelAllowed, headerRefusal, placesOf, totalOf, arrivalsAt, slotCountsAt}
+use Rattle.layout.specs.Tables.{tablesRefusal}
 use Rattle.trace.specs.Reading.{headerOf, capacity, slotCount, portByte, placesRight, bodyRefusal, reading}
 use Rattle.trace.proofs.ReadingLaws.{Right, nothing-refused, accepted}
 

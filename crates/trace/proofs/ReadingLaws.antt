@@ -13,13 +13,13 @@ use Rattle.base.specs.Digits.{byte}
 use Rattle.base.specs.Refusal.{_⨟_}
 use Rattle.base.proofs.Below.{both-true}
 use Rattle.base.proofs.Refusal.{unless-zero, chain-zero, stops, goes-on, passed, failed}
-use Rattle.trace.specs.declared.Header.{Header}
-use Rattle.trace.specs.declared.Places.{Places}
-use Rattle.trace.specs.declared.LaidOut.the-variants.{Refused as LaidRefused}
+use Rattle.layout.specs.declared.Header.{Header}
+use Rattle.layout.specs.declared.Places.{Places}
+use Rattle.layout.specs.declared.LaidOut.the-variants.{Refused as LaidRefused}
 use Rattle.trace.specs.declared.Verdict.the-variants.{Accepted, Refused}
-use Rattle.trace.specs.Header.{headerRefusal, capacityCount, placesOf, laidOut}
-use Rattle.trace.specs.Tables.{capacityAllowed, capacitiesAllowed, countsAddUp, portsBelow, tablesRefusal}
-use Rattle.trace.proofs.HeaderLaws.{laid-by}
+use Rattle.layout.specs.Header.{headerRefusal, capacityCount, placesOf, laidOut}
+use Rattle.layout.specs.Tables.{capacityAllowed, capacitiesAllowed, countsAddUp, portsBelow, tablesRefusal}
+use Rattle.layout.proofs.HeaderLaws.{laid-by}
 use Rattle.trace.specs.Reading.{half, word, headerOf, capacity, slotCount, portByte, placesRight, bodyRefusal, reading, verdictOf, verdict, refusalOf}
 
 -- the header's offsets and total, and the slice's length

@@ -8,14 +8,14 @@ use mathlib.Core.List.{List, []}
 use lib.Dec.{ltb}
 use borrow.Author.Tests.{ltb-true}
 use Rattle.base.specs.Below.{sumBelow}
-use Rattle.trace.specs.declared.Header.{Header}
+use Rattle.layout.specs.declared.Header.{Header}
 use Rattle.trace.specs.declared.Standing.{Standing}
 use Rattle.trace.specs.declared.Standing.the-variants.{Arrivals, NoMore, Refused as StandingRefused}
 use Rattle.trace.specs.declared.Verdict.{Verdict}
 use Rattle.trace.specs.declared.Verdict.the-variants.{Accepted, Refused}
 use Rattle.trace.specs.Reading.{half, word, headerOf, slotCount, reading, verdict}
 use Rattle.trace.specs.Slots.{before, standingIn, standing, partFrom, partAt, slotPart}
-use Rattle.trace.proofs.HeaderLaws.{allowed}
+use Rattle.layout.proofs.HeaderLaws.{allowed}
 use Rattle.trace.proofs.ReadingLaws.{whole, accepted}
 
 -- arrivals stand only in an accepted trace, at a slot below its slots

@@ -3,14 +3,6 @@
 -- Assumes nothing.
 use denote.Ref.{now}
 use Rattle.base.proofs.Unique.{determined, OneShown, OneAnswer}
-use Rattle.trace.proofs.model_allowed.Kinds as model-allowed-kinds
-use Rattle.trace.proofs.model_allowed.Reads as model-allowed
-use Rattle.trace.proofs.side_allowed.Kinds as side-allowed-kinds
-use Rattle.trace.proofs.side_allowed.Reads as side-allowed
-use Rattle.trace.proofs.capacity_allowed.Kinds as capacity-allowed-kinds
-use Rattle.trace.proofs.capacity_allowed.Reads as capacity-allowed
-use Rattle.trace.proofs.lay_out.Kinds as lay-out-kinds
-use Rattle.trace.proofs.lay_out.Reads as lay-out
 use Rattle.trace.proofs.examine.Kinds as examine-kinds
 use Rattle.trace.proofs.examine.Reads as examine
 use Rattle.trace.proofs.head.Kinds as head-kinds
@@ -27,18 +19,6 @@ use Rattle.trace.proofs.stands.Kinds as stands-kinds
 use Rattle.trace.proofs.stands.Reads as stands
 use Rattle.trace.proofs.slot_part.Kinds as slot-part-kinds
 use Rattle.trace.proofs.slot_part.Reads as slot-part
-
-pub model-allowed-one : OneAnswer 0 model-allowed-kinds.ps model-allowed-kinds.r model-allowed.Post
-model-allowed-one κs a x y d e = determined
-
-pub side-allowed-one : OneAnswer 0 side-allowed-kinds.ps side-allowed-kinds.r side-allowed.Post
-side-allowed-one κs a x y d e = determined
-
-pub capacity-allowed-one : OneAnswer 0 capacity-allowed-kinds.ps capacity-allowed-kinds.r capacity-allowed.Post
-capacity-allowed-one κs a x y d e = determined
-
-pub lay-out-one : OneAnswer 0 lay-out-kinds.ps lay-out-kinds.r lay-out.Post
-lay-out-one κs a x y d e = determined
 
 pub examine-one : OneAnswer 1 examine-kinds.ps examine-kinds.r examine.Post
 examine-one κs a x y d e = determined

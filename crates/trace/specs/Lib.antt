@@ -1,4 +1,2 @@
-pub mod Header
-pub mod Tables
 pub mod Reading
 pub mod Slots

@@ -6,12 +6,12 @@ use lib.ListN.{length}
 use lib.Dec.{leb, eqb}
 use Rattle.base.specs.Digits.{byte, number}
 use Rattle.base.specs.Refusal.{unless, _⨟_}
-use Rattle.trace.specs.declared.Header.{Header}
+use Rattle.layout.specs.declared.Header.{Header}
 use Rattle.trace.specs.declared.Verdict.{Verdict}
 use Rattle.trace.specs.declared.Verdict.the-variants.{Accepted, Refused}
-use Rattle.trace.specs.declared.Places.{Places}
-use Rattle.trace.specs.Header.{headerRefusal, capacitiesAt, placesOf}
-use Rattle.trace.specs.Tables.{tablesRefusal}
+use Rattle.layout.specs.declared.Places.{Places}
+use Rattle.layout.specs.Header.{headerRefusal, capacitiesAt, placesOf}
+use Rattle.layout.specs.Tables.{tablesRefusal}
 
 -- 16 bits and 32 bits from a place on, low byte first
 abbrev pub half : List ℕ → ℕ → ℕ

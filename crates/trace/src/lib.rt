@@ -1,39 +1,16 @@
 // The trace file (document 01, "The trace file"): the verdict on any slice of bytes, and questions about what it holds.
 mod numbers; // numbers.rt: 8, 16 and 32 bits out of a slice of bytes
-mod layout; // layout.rt: what a header's numbers may be, and the places that they give the tables
 mod tables; // tables.rt: what the three tables may hold
 
+use layout::Header;
+use layout::LaidOut;
+use layout::Places;
 ghost use mathlib.Core.Path.{_≡_};
 ghost use mathlib.Core.Bool.{true};
-ghost use Rattle.trace.specs.Header.{modelAllowed, sideAllowed, headerRefusal, placesOf, laidOut};
-ghost use Rattle.trace.specs.Tables.{capacityAllowed, tablesRefusal};
+ghost use Rattle.layout.specs.Header.{headerRefusal, placesOf};
+ghost use Rattle.layout.specs.Tables.{tablesRefusal};
 ghost use Rattle.trace.specs.Reading.{headerOf, capacity, slotCount, portByte, placesRight, bodyRefusal, verdict};
 ghost use Rattle.trace.specs.Slots.{arrivalOf, partFrom, slotPart, standing};
-
-// The header's first six words.
-pub struct Header {
-    pub model: u32,
-    pub order: u32,
-    pub ports: u32,
-    pub speedup: u32,
-    pub slots: u32,
-    pub arrivals: u32,
-}
-
-// What a header's numbers make of the file: how many capacities there are, where the slot counts and the arrivals start, and where
-// the file ends.
-pub struct Places {
-    pub capacities: usize,
-    pub counts: usize,
-    pub arrivals: usize,
-    pub total: usize,
-}
-
-// The places of a header whose numbers are allowed, or the refusal of one of them, 2 to 7.
-pub enum LaidOut {
-    At(Places),
-    Refused(u32),
-}
 
 // What examining a trace finds: the header's numbers of an accepted one, or the first refusal's number, 1 to 11.
 pub enum Verdict {
@@ -52,33 +29,6 @@ pub enum Standing {
     Arrivals,
     NoMore,
     Refused(u32),
-}
-
-// Whether a model is allowed: 1 CIOQ, 2 buffered crossbar.
-pub fn model_allowed(m: u32) -> bool
-    ensures { λ r. ⌜ r ≡ modelAllowed m ⌝ }
-{
-    layout::model_allowed(m)
-}
-
-// Whether a number of ports, or a speedup, is allowed: 1 to 16.
-pub fn side_allowed(n: u32) -> bool
-    ensures { λ r. ⌜ r ≡ sideAllowed n ⌝ }
-{
-    layout::side_allowed(n)
-}
-
-// Whether a capacity is allowed: 1 to 1,024.
-pub fn capacity_allowed(c: u32) -> bool
-    ensures { λ r. ⌜ r ≡ capacityAllowed c ⌝ }
-{
-    tables::capacity_allowed(c)
-}
-
-pub fn lay_out(header: Header) -> LaidOut
-    ensures { λ r. ⌜ r ≡ laidOut header ⌝ }
-{
-    layout::lay_out(header)
 }
 
 // The refusals 9 to 11, of tables that stand in their places.

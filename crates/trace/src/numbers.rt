@@ -1,5 +1,5 @@
 // Numbers out of a slice of bytes, low byte first. Every place may be asked for: past the end each byte reads as 0.
-use crate::Header;
+use layout::Header;
 ghost use mathlib.Core.Path.{_≡_};
 ghost use Prim.Native.Nat.{_+_, _*_, _<_, min};
 ghost use Rattle.base.specs.Digits.{byte};

@@ -1,12 +1,12 @@
 // What the three tables of a trace may hold.
-use crate::Places;
 use crate::numbers;
+use layout::Places;
 ghost use mathlib.Core.Path.{_≡_};
 ghost use Prim.Native.Nat.{_+_, _*_};
 ghost use lib.Dec.{ltb};
 ghost use Rattle.base.specs.Below.{allBelow, sumBelow};
 ghost use Rattle.base.specs.Digits.{byte};
-ghost use Rattle.trace.specs.Tables.{capacityAllowed};
+ghost use Rattle.layout.specs.Tables.{capacityAllowed};
 ghost use Rattle.trace.specs.Reading.{half, placesRight};
 
 // Whether the offsets and the total stand in the header as the counts make them, and the slice ends there.
@@ -24,20 +24,13 @@ pub(crate) fn places_right(trace: &[u8], places: Places) -> bool
     )
 }
 
-// 1 to 1,024.
-pub(crate) fn capacity_allowed(c: u32) -> bool
-    ensures { λ r. ⌜ r ≡ capacityAllowed c ⌝ }
-{
-    base::both(1 <= c, c <= 1024)
-}
-
 // Whether each of the `count` capacities from `at` on is allowed.
 pub(crate) fn capacities_allowed(trace: &[u8], at: usize, count: usize) -> bool
     ensures { λ r. ⌜ r ≡ allBelow (λ k. capacityAllowed (half (now (trace .entry)) (at + 2 * k))) count ⌝ }
 {
     let mut k = 0;
     while k < count {
-        if !capacity_allowed(numbers::entry(trace, at, k)) {
+        if !layout::capacity_allowed(numbers::entry(trace, at, k)) {
             return false;
         }
         k += 1;

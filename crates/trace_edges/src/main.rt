@@ -1,8 +1,8 @@
 // The edges of the trace file (document 01, "The trace file", "Refusal numbers" and "Bench cases"), each on a line: what was done, and
 // the number that it is refused with, 0 where it is accepted. `ports-17 4` is C1 with 17 for its ports, which is refused with 4. What
 // the lines have to say stands in the file `stdout`, written by hand from document 01.
-use trace::Header;
-use trace::LaidOut;
+use layout::Header;
+use layout::LaidOut;
 use trace::Verdict;
 use trace_write::Written;
 ghost use Prim.Native.Nat.{_≤_};
@@ -136,7 +136,7 @@ fn c1(out: &mut [u8]) -> u32 {
 }
 
 fn capacity_count(h: Header) -> usize {
-    match trace::lay_out(h) {
+    match layout::lay_out(h) {
         LaidOut::At(places) => places.capacities,
         LaidOut::Refused(_) => 0,
     }

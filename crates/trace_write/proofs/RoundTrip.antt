@@ -16,13 +16,13 @@ use Rattle.base.proofs.Digits.{length-spell}
 use Rattle.base.proofs.Listed.{length-listed, listed-at, listed-is, listed-bytes}
 use Rattle.base.proofs.Lists.{part-then-rest}
 use Rattle.base.proofs.Spelled.{number-spell, spell-numbers}
-use Rattle.trace.specs.declared.Header.{Header}
-use Rattle.trace.specs.Header.{capacityCount, slotCountsAt, arrivalsAt, totalOf, placesOf}
+use Rattle.layout.specs.declared.Header.{Header}
+use Rattle.layout.specs.Header.{capacityCount, slotCountsAt, arrivalsAt, totalOf, placesOf}
 use Rattle.trace.specs.Reading.{half, word, headerOf, capacity, slotCount, portByte, reading}
 use Rattle.trace.proofs.Accepting.{model-small, accepted-when, tables-passed}
-use Rattle.trace.proofs.HeaderLaws.{allowed, places-small}
+use Rattle.layout.proofs.HeaderLaws.{allowed, places-small}
 use Rattle.trace.proofs.ReadingLaws.{Right, right, whole}
-use Rattle.trace.proofs.TablesLaws.{capacities-small, counts-small, tables-alike}
+use Rattle.layout.proofs.TablesLaws.{capacities-small, counts-small, tables-alike}
 use Rattle.trace_write.specs.declared.Written.the-variants.{Filled}
 use Rattle.trace_write.specs.Writing.{lentRefusal, writing, headerWords, file, answerOf, outOf, written, writtenOut}
 use Rattle.trace_write.specs.RoundTrip.{capacitiesOf, slotCountsOf, portsOf, ReadsBack, Rewritten}

@@ -16,12 +16,12 @@ use Rattle.base.proofs.Below.{both-true}
 use Rattle.base.proofs.Digits.{length-spell}
 use Rattle.base.proofs.Refusal.{unless-zero, chain-zero, stops, goes-on, passed, chained, tested}
 use Rattle.base.proofs.Sets.{sets-then, sets-start}
-use Rattle.trace.specs.declared.Header.{Header}
-use Rattle.trace.specs.declared.Places.{Places}
-use Rattle.trace.specs.declared.LaidOut.{LaidOut}
-use Rattle.trace.specs.declared.LaidOut.the-variants.{At, Refused as LaidRefused}
-use Rattle.trace.specs.Header.{headerRefusal, capacityCount, slotCountsAt, arrivalsAt, totalOf, placesOf, laidOut}
-use Rattle.trace.proofs.HeaderLaws.{laid-at, laid-by}
+use Rattle.layout.specs.declared.Header.{Header}
+use Rattle.layout.specs.declared.Places.{Places}
+use Rattle.layout.specs.declared.LaidOut.{LaidOut}
+use Rattle.layout.specs.declared.LaidOut.the-variants.{At, Refused as LaidRefused}
+use Rattle.layout.specs.Header.{headerRefusal, capacityCount, slotCountsAt, arrivalsAt, totalOf, placesOf, laidOut}
+use Rattle.layout.proofs.HeaderLaws.{laid-at, laid-by}
 use Rattle.trace_write.specs.declared.Written.the-variants.{Filled, Refused}
 use Rattle.trace_write.specs.Writing.{lengthsRight, lentRefusal, bodyRefusal, writing, headerWords, file, answerOf, outOf, written, writtenOut}
 

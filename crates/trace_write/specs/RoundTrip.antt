@@ -4,8 +4,8 @@ use Prim.Native.Nat.{ℕ, _*_}
 use mathlib.Core.Path.{_≡_}
 use mathlib.Core.List.{List}
 use Rattle.base.specs.Below.{listBelow}
-use Rattle.trace.specs.declared.Header.{Header}
-use Rattle.trace.specs.Header.{capacityCount}
+use Rattle.layout.specs.declared.Header.{Header}
+use Rattle.layout.specs.Header.{capacityCount}
 use Rattle.trace.specs.Reading.{headerOf, capacity, slotCount, portByte, reading}
 use Rattle.trace_write.specs.Writing.{writing, file}
 

@@ -6,9 +6,9 @@ use lib.ListN.{length, getD, drop}
 use lib.Dec.{leb, eqb}
 use Rattle.base.specs.Digits.{spell}
 use Rattle.base.specs.Refusal.{unless, _⨟_}
-use Rattle.trace.specs.declared.Header.{Header}
-use Rattle.trace.specs.Header.{headerRefusal, capacityCount, capacitiesAt, slotCountsAt, arrivalsAt, totalOf}
-use Rattle.trace.specs.Tables.{tablesRefusal}
+use Rattle.layout.specs.declared.Header.{Header}
+use Rattle.layout.specs.Header.{headerRefusal, capacityCount, capacitiesAt, slotCountsAt, arrivalsAt, totalOf}
+use Rattle.layout.specs.Tables.{tablesRefusal}
 use Rattle.trace_write.specs.declared.Written.{Written}
 use Rattle.trace_write.specs.declared.Written.the-variants.{Filled, Refused}
 

@@ -1,14 +1,14 @@
 // What the tables lent to the writer may hold.
-use trace::Header;
-use trace::Places;
+use layout::Header;
+use layout::Places;
 ghost use mathlib.Core.Path.{_≡_};
 ghost use Prim.Native.Nat.{_+_, _*_, _≤_};
 ghost use lib.ListN.{length, getD};
 ghost use lib.Dec.{ltb, leb};
 ghost use Rattle.base.specs.Below.{allBelow, sumBelow};
 ghost use Rattle.base.specs.Refusal.{unless, _⨟_};
-ghost use Rattle.trace.specs.Header.{headerRefusal, placesOf};
-ghost use Rattle.trace.specs.Tables.{capacityAllowed};
+ghost use Rattle.layout.specs.Header.{headerRefusal, placesOf};
+ghost use Rattle.layout.specs.Tables.{capacityAllowed};
 ghost use Rattle.trace_write.specs.Writing.{lengthsRight, lentRefusal, bodyRefusal};
 
 // Entry k of a table, and 0 past its end.
@@ -37,7 +37,7 @@ fn capacities_allowed(table: &[u16], count: usize) -> bool
 {
     let mut k = 0;
     while k < count {
-        if !trace::capacity_allowed(entry(table, k)) {
+        if !layout::capacity_allowed(entry(table, k)) {
             return false;
         }
         k += 1;

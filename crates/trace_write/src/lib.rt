@@ -2,13 +2,13 @@
 mod put; // put.rt: bytes, 16 and 32 bits and whole tables into a slice
 mod lent; // lent.rt: what the lent tables may hold
 
-use trace::Header;
-use trace::LaidOut;
-use trace::Places;
+use layout::Header;
+use layout::LaidOut;
+use layout::Places;
 ghost use mathlib.Core.Path.{_≡_};
 ghost use mathlib.Core.Bool.{true};
 ghost use lib.Seq.{sets};
-ghost use Rattle.trace.specs.Header.{headerRefusal, placesOf};
+ghost use Rattle.layout.specs.Header.{headerRefusal, placesOf};
 ghost use Rattle.trace_write.specs.Writing.{lengthsRight, file, written, writtenOut};
 
 // What writing answers: the total that was filled, or the first refusal's number.
@@ -45,7 +45,7 @@ pub fn write(
     ensures { λ r. ⌜ r ≡ written header (now (capacities .entry)) (now (counts .entry)) (now (ports .entry)) (now (out .entry)) ⌝ }
     ensures { λ r. ⌜ now (out .exit) ≡ writtenOut header (now (capacities .entry)) (now (counts .entry)) (now (ports .entry)) (now (out .entry)) ⌝ }
 {
-    match trace::lay_out(header) {
+    match layout::lay_out(header) {
         LaidOut::Refused(n) => Written::Refused(n),
         LaidOut::At(places) => {
             let n = lent::refusal(header, places, capacities, counts, ports, out.len());

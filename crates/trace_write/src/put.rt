@@ -1,12 +1,12 @@
 // Numbers into a slice of bytes, low byte first. A place past the end takes nothing.
-use trace::Header;
-use trace::Places;
+use layout::Header;
+use layout::Places;
 ghost use mathlib.Core.Path.{_≡_};
 ghost use Prim.Native.Nat.{_≤_, _<_};
 ghost use lib.ListN.{length, set};
 ghost use lib.Seq.{sets};
 ghost use Rattle.base.specs.Digits.{digits, spell};
-ghost use Rattle.trace.specs.Header.{headerRefusal, placesOf};
+ghost use Rattle.layout.specs.Header.{headerRefusal, placesOf};
 ghost use Rattle.trace_write.specs.Writing.{headerWords};
 
 fn byte(out: &mut [u8], at: usize, b: u8)

@@ -7,7 +7,7 @@ use lib.ListN.{length, getD, set}
 use borrow.Author.Tests.{eqb-true}
 use Rattle.base.specs.Refusal.{_⨟_}
 use Rattle.base.proofs.Refusal.{unless-zero, chain-zero, stops, goes-on}
-use Rattle.trace.specs.declared.Header.{Header}
+use Rattle.layout.specs.declared.Header.{Header}
 use Rattle.trace_write.specs.declared.Written.{Written}
 use Rattle.trace_write.specs.Writing.{writing, file, answerOf, outOf, written, writtenOut}
 use Rattle.run.specs.declared.Counts.{Counts}

@@ -5,7 +5,7 @@ use mathlib.Core.List.{List, [], _∷_}
 use lib.ListN.{length, getD}
 use lib.Dec.{eqb}
 use Rattle.base.specs.Refusal.{unless, _⨟_}
-use Rattle.trace.specs.declared.Header.{Header}
+use Rattle.layout.specs.declared.Header.{Header}
 use Rattle.trace.specs.Reading.{verdict, refusalOf}
 use Rattle.trace_write.specs.declared.Written.{Written}
 use Rattle.trace_write.specs.declared.Written.the-variants.{Filled, Refused as WritingRefused}

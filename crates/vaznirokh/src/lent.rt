@@ -1,8 +1,8 @@
 // The work on lent runs: their lengths, and the steps on runs that have them.
 use crate::answers;
+use layout::Header;
 use run::Counts;
 use switch::Switch;
-use trace::Header;
 ghost use mathlib.Core.Path.{_≡_};
 ghost use mathlib.Core.List.{[], _∷_};
 ghost use lib.ListN.{length};

@@ -4,7 +4,7 @@ use borrow.Author.Needs.{needs}
 use native.Mathlib.Omega.{arith}
 use mathlib.Core.Path.{_≡_, refl, sym, _∙_, ap, ap₂}
 use denote.Ref.{now}
-use Rattle.trace.specs.Header.{hasCrosspoints}
+use Rattle.layout.specs.Header.{hasCrosspoints}
 use Rattle.queues.specs.Turn.{turn}
 use Rattle.queues.specs.Slot.{Done, closing}
 use Rattle.queues.specs.Lent.{Held}

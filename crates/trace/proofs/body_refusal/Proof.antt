@@ -5,7 +5,7 @@ use mathlib.Core.Path.{_≡_, refl, sym, _∙_, ap}
 use denote.Ref.{now}
 use mathlib.Core.Bool.{true, false}
 use borrow.Author.Tests.{not-true, not-false}
-use Rattle.trace.specs.declared.Places.{Places}
+use Rattle.layout.specs.declared.Places.{Places}
 use Rattle.trace.specs.Reading.{placesRight, bodyRefusal}
 use Rattle.base.proofs.Refusal.{passed, failed}
 use Rattle.trace.proofs.body_refusal.Statement.{statement}

@@ -5,7 +5,7 @@ use native.Mathlib.Omega.{arith}
 use mathlib.Core.Path.{_≡_, refl, sym, _∙_, ap}
 use denote.Ref.{now}
 use Rattle.trace.proofs.ReadingLaws.{too-short, header-refused, body-refused, nothing-refused}
-use Rattle.trace.proofs.HeaderLaws.{laid-at}
+use Rattle.layout.proofs.HeaderLaws.{laid-at}
 use Rattle.trace.proofs.examine.Statement.{statement}
 use Rattle.trace.proofs.examine.Tie as tie
 

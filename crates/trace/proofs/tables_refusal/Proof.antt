@@ -7,10 +7,10 @@ use denote.Ref.{now}
 use Prim.Native.Nat.{ℕ}
 use lib.Dec.{eqb}
 use Rattle.base.proofs.Refusal.{chained, tested}
-use Rattle.trace.proofs.HeaderLaws.{allowed, places-small}
-use Rattle.trace.specs.declared.Places.{Places}
-use Rattle.trace.specs.Header.{placesOf}
-use Rattle.trace.specs.Tables.{tablesRefusal}
+use Rattle.layout.proofs.HeaderLaws.{allowed, places-small}
+use Rattle.layout.specs.declared.Places.{Places}
+use Rattle.layout.specs.Header.{placesOf}
+use Rattle.layout.specs.Tables.{tablesRefusal}
 use Rattle.trace.proofs.ReadingLaws.{capacities-judged, counts-judged, ports-judged}
 use Rattle.trace.proofs.tables_refusal.Statement.{statement}
 use Rattle.trace.proofs.tables_refusal.Tie as tie

@@ -4,11 +4,11 @@ use borrow.Author.Needs.{needs}
 use native.Mathlib.Omega.{arith}
 use mathlib.Core.Path.{_≡_, refl, sym, _∙_, ap}
 use denote.Ref.{now}
-use Rattle.trace.specs.declared.Places.{Places}
+use Rattle.layout.specs.declared.Places.{Places}
 use Prim.Native.Nat.{_≤_}
 use lib.ListN.{length}
-use Rattle.trace.specs.Header.{placesOf, slotCountsAt}
-use Rattle.trace.proofs.HeaderLaws.{allowed, places-small}
+use Rattle.layout.specs.Header.{placesOf, slotCountsAt}
+use Rattle.layout.proofs.HeaderLaws.{allowed, places-small}
 use Rattle.trace_write.proofs.WritingLaws.{lengths, parts-stored}
 use Rattle.trace_write.proofs.fill.Statement.{statement}
 use Rattle.trace_write.proofs.fill.Tie as tie

@@ -3,7 +3,7 @@
 use borrow.Author.Needs.{needs}
 use mathlib.Core.Path.{sym, _∙_}
 use denote.Ref.{now}
-use Rattle.trace.proofs.HeaderLaws.{laid-at}
+use Rattle.layout.proofs.HeaderLaws.{laid-at}
 use Rattle.trace_write.proofs.WritingLaws.{refused-by-header, refused-by-body, fillable, filled-out}
 use Rattle.trace_write.proofs.write.Statement.{statement}
 use Rattle.trace_write.proofs.write.Tie as tie

@@ -3,7 +3,7 @@
 use borrow.Author.Needs.{needs}
 use mathlib.Core.Path.{_≡_, refl, sym, _∙_, ap, ap₂}
 use mathlib.Core.Bool.{Bool, _&&_}
-use Rattle.trace.specs.Header.{orderAllowed}
+use Rattle.layout.specs.Header.{orderAllowed}
 use Rattle.switch.specs.Allowed.{switchAllowed}
 use lib.Dec.{leb}
 use Rattle.switch.proofs.judge.allowed.Statement.{statement}

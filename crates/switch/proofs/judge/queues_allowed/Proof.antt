@@ -3,7 +3,7 @@
 use borrow.Author.Needs.{needs}
 use mathlib.Core.Path.{_≡_, refl, sym, _∙_, ap, ap₂}
 use mathlib.Core.Bool.{Bool, _&&_}
-use Rattle.trace.specs.Header.{hasCrosspoints}
+use Rattle.layout.specs.Header.{hasCrosspoints}
 use Rattle.switch.specs.Allowed.{queuesAllowed}
 use Rattle.switch.proofs.judge.queues_allowed.Statement.{statement}
 use Rattle.switch.proofs.judge.queues_allowed.Tie as tie

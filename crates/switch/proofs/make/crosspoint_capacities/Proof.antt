@@ -5,7 +5,7 @@ use mathlib.Core.Path.{_≡_, refl, sym, _∙_, ap}
 use denote.Ref.{now}
 use native.Mathlib.Nat.{mul-le-mul}
 use borrow.Author.Tests.{eq-eqb, ne-eqb}
-use Rattle.trace.specs.Header.{hasCrosspoints}
+use Rattle.layout.specs.Header.{hasCrosspoints}
 use Rattle.switch.proofs.MakingLaws.{with-crosspoints, without-crosspoints}
 use Rattle.switch.proofs.make.crosspoint_capacities.Statement.{statement}
 use Rattle.switch.proofs.make.crosspoint_capacities.Tie as tie

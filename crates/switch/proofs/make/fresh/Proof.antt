@@ -4,7 +4,7 @@ use borrow.Author.Needs.{needs}
 use native.Mathlib.Omega.{arith}
 use mathlib.Core.Path.{_≡_, refl, sym, _∙_, ap}
 use denote.Ref.{now}
-use Rattle.trace.specs.declared.Header.{Header}
+use Rattle.layout.specs.declared.Header.{Header}
 use Rattle.trace.specs.Reading.{headerOf}
 use Rattle.switch.specs.Making.{fresh, inputCapacities}
 use Rattle.switch.proofs.MakingLaws.{ports-few}

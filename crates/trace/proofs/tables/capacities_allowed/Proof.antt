@@ -8,7 +8,7 @@ use mathlib.Core.Bool.{Bool, true}
 use Rattle.base.specs.Below.{allBelow}
 use Rattle.base.proofs.Below.{all-none, all-more, all-fails, all-done}
 use Rattle.trace.specs.Reading.{half}
-use Rattle.trace.specs.Tables.{capacityAllowed}
+use Rattle.layout.specs.Tables.{capacityAllowed}
 use mathlib.Core.List.{List}
 use borrow.Author.Tests.{not-true, not-false}
 use denote.Ref.{now}

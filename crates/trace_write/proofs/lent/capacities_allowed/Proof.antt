@@ -11,7 +11,7 @@ use lib.ListN.{getD}
 use borrow.Author.Tests.{not-true, not-false}
 use Rattle.base.specs.Below.{allBelow}
 use Rattle.base.proofs.Below.{all-none, all-more, all-fails, all-done}
-use Rattle.trace.specs.Tables.{capacityAllowed}
+use Rattle.layout.specs.Tables.{capacityAllowed}
 use Rattle.trace_write.proofs.lent.capacities_allowed.Statement.{statement}
 use Rattle.trace_write.proofs.lent.capacities_allowed.Tie as tie
 

@@ -6,8 +6,8 @@ use denote.Ref.{now}
 use lib.ListN.{length}
 use lib.Dec.{eqb}
 use Rattle.base.proofs.Below.{joined}
-use Rattle.trace.specs.declared.Places.{Places}
-use Rattle.trace.specs.Header.{placesOf}
+use Rattle.layout.specs.declared.Places.{Places}
+use Rattle.layout.specs.Header.{placesOf}
 use Rattle.trace_write.specs.Writing.{lengthsRight}
 use Rattle.trace_write.proofs.lent.lengths_right.Statement.{statement}
 use Rattle.trace_write.proofs.lent.lengths_right.Tie as tie

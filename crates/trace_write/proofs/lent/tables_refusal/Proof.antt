@@ -9,10 +9,10 @@ use lib.ListN.{getD}
 use lib.Dec.{eqb}
 use Rattle.base.specs.Below.{allBelow}
 use Rattle.base.proofs.Refusal.{chained, tested}
-use Rattle.trace.specs.declared.Places.{Places}
-use Rattle.trace.specs.Header.{placesOf}
-use Rattle.trace.specs.Tables.{capacityAllowed, tablesRefusal, capacitiesAllowed, countsAddUp, portsBelow}
-use Rattle.trace.proofs.HeaderLaws.{allowed}
+use Rattle.layout.specs.declared.Places.{Places}
+use Rattle.layout.specs.Header.{placesOf}
+use Rattle.layout.specs.Tables.{capacityAllowed, tablesRefusal, capacitiesAllowed, countsAddUp, portsBelow}
+use Rattle.layout.proofs.HeaderLaws.{allowed}
 use Rattle.trace_write.specs.Writing.{lentRefusal}
 use Rattle.trace_write.proofs.lent.tables_refusal.Statement.{statement}
 use Rattle.trace_write.proofs.lent.tables_refusal.Tie as tie

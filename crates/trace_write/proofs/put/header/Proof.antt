@@ -7,9 +7,9 @@ use denote.Ref.{now}
 use mathlib.Core.List.{[], _∷_}
 use lib.Seq.{sets}
 use Rattle.base.specs.Digits.{spell}
-use Rattle.trace.specs.declared.Places.{Places}
-use Rattle.trace.specs.Header.{placesOf}
-use Rattle.trace.proofs.HeaderLaws.{places-small}
+use Rattle.layout.specs.declared.Places.{Places}
+use Rattle.layout.specs.Header.{placesOf}
+use Rattle.layout.proofs.HeaderLaws.{places-small}
 use Rattle.trace_write.specs.Writing.{headerWords}
 use Rattle.trace_write.proofs.put.header.Statement.{statement}
 use Rattle.trace_write.proofs.put.header.Tie as tie

@@ -1,9 +1,9 @@
--- `trace::tables::capacity_allowed` meets its contract.
+-- `layout::capacity_allowed` meets its contract.
 -- Assumes nothing.
 use borrow.Author.Needs.{needs}
-use Rattle.trace.specs.Tables.{capacityAllowed}
-use Rattle.trace.proofs.tables.capacity_allowed.Statement.{statement}
-use Rattle.trace.proofs.tables.capacity_allowed.Tie as tie
+use Rattle.layout.specs.Tables.{capacityAllowed}
+use Rattle.layout.proofs.capacity_allowed.Statement.{statement}
+use Rattle.layout.proofs.capacity_allowed.Tie as tie
 
 both-requires : tie.Need-both-requires
 both-requires c κs = search needs

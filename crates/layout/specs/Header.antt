@@ -4,10 +4,10 @@ use Prim.Native.Nat.{ℕ, zero, suc, _+_, _*_}
 use mathlib.Core.Bool.{Bool, _&&_, _||_, cond}
 use lib.Dec.{leb, eqb}
 use Rattle.base.specs.Refusal.{unless, _⨟_}
-use Rattle.trace.specs.declared.Header.{Header}
-use Rattle.trace.specs.declared.Places.{Places}
-use Rattle.trace.specs.declared.LaidOut.{LaidOut}
-use Rattle.trace.specs.declared.LaidOut.the-variants.{At, Refused}
+use Rattle.layout.specs.declared.Header.{Header}
+use Rattle.layout.specs.declared.Places.{Places}
+use Rattle.layout.specs.declared.LaidOut.{LaidOut}
+use Rattle.layout.specs.declared.LaidOut.the-variants.{At, Refused}
 
 -- 1 CIOQ, 2 buffered crossbar
 unfoldable pub modelAllowed : ℕ → Bool

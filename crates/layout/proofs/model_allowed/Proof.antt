@@ -1,9 +1,9 @@
--- `trace::layout::model_allowed` meets its contract.
+-- `layout::model_allowed` meets its contract.
 -- Assumes nothing.
-use Rattle.trace.specs.Header.{modelAllowed}
+use Rattle.layout.specs.Header.{modelAllowed}
 use borrow.Author.Tests.{eq-eqb, ne-eqb}
-use Rattle.trace.proofs.layout.model_allowed.Statement.{statement}
-use Rattle.trace.proofs.layout.model_allowed.Tie as tie
+use Rattle.layout.proofs.model_allowed.Statement.{statement}
+use Rattle.layout.proofs.model_allowed.Tie as tie
 
 returns : tie.Need-returns
 unfolding modelAllowed

@@ -11,10 +11,10 @@ use Rattle.base.specs.Refusal.{unless, _⨟_}
 use Rattle.base.proofs.Below.{both-true, all-at, all-cong, sum-cong}
 use Rattle.base.proofs.Refusal.{unless-zero, chain-zero}
 use Rattle.base.proofs.Sums.{sum-entry}
-use Rattle.trace.specs.declared.Header.{Header}
-use Rattle.trace.specs.Header.{headerRefusal, capacityCount}
-use Rattle.trace.specs.Tables.{capacityAllowed, capacitiesAllowed, countsAddUp, portsBelow, tablesRefusal}
-use Rattle.trace.proofs.HeaderLaws.{allowed}
+use Rattle.layout.specs.declared.Header.{Header}
+use Rattle.layout.specs.Header.{headerRefusal, capacityCount}
+use Rattle.layout.specs.Tables.{capacityAllowed, capacitiesAllowed, countsAddUp, portsBelow, tablesRefusal}
+use Rattle.layout.proofs.HeaderLaws.{allowed}
 
 capacity-small : (c : ℕ) → capacityAllowed c ≡ true → c ≤ 1024
 unfolding capacityAllowed

@@ -1,12 +1,12 @@
--- `trace::layout::capacity_count` meets its contract: 16 ports make at most 528 capacities.
+-- `layout::capacity_count` meets its contract: 16 ports make at most 528 capacities.
 -- Assumes nothing.
 use borrow.Author.Needs.{needs}
 use native.Mathlib.Omega.{arith}
 use borrow.Author.Tests.{eq-eqb, ne-eqb}
-use Rattle.trace.specs.Header.{capacityCount, hasCrosspoints}
-use Rattle.trace.proofs.HeaderLaws.{pairs}
-use Rattle.trace.proofs.layout.capacity_count.Statement.{statement}
-use Rattle.trace.proofs.layout.capacity_count.Tie as tie
+use Rattle.layout.specs.Header.{capacityCount, hasCrosspoints}
+use Rattle.layout.proofs.HeaderLaws.{pairs}
+use Rattle.layout.proofs.capacity_count.Statement.{statement}
+use Rattle.layout.proofs.capacity_count.Tie as tie
 
 cast-n : tie.Need-cast-n
 cast-n c = search needs

@@ -1,9 +1,9 @@
--- `trace::layout::side_allowed` meets its contract.
+-- `layout::side_allowed` meets its contract.
 -- Assumes nothing.
 use borrow.Author.Needs.{needs}
-use Rattle.trace.specs.Header.{sideAllowed}
-use Rattle.trace.proofs.layout.side_allowed.Statement.{statement}
-use Rattle.trace.proofs.layout.side_allowed.Tie as tie
+use Rattle.layout.specs.Header.{sideAllowed}
+use Rattle.layout.proofs.side_allowed.Statement.{statement}
+use Rattle.layout.proofs.side_allowed.Tie as tie
 
 both-requires : tie.Need-both-requires
 both-requires c κs = search needs

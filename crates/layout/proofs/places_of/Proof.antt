@@ -1,11 +1,11 @@
--- `trace::layout::places` meets its contract.
+-- `layout::places_of` meets its contract.
 -- Assumes nothing.
 use borrow.Author.Needs.{needs}
 use Prim.Native.Nat.{ℕ, _+_, _*_}
 use mathlib.Core.Path.{ap}
-use Rattle.trace.specs.Header.{placesOf, slotCountsAt, arrivalsAt, totalOf}
-use Rattle.trace.proofs.layout.places.Statement.{statement}
-use Rattle.trace.proofs.layout.places.Tie as tie
+use Rattle.layout.specs.Header.{placesOf, slotCountsAt, arrivalsAt, totalOf}
+use Rattle.layout.proofs.places_of.Statement.{statement}
+use Rattle.layout.proofs.places_of.Tie as tie
 
 capacity-count-requires : tie.Need-capacity-count-requires
 capacity-count-requires c κs = search needs
@@ -48,8 +48,8 @@ returns c =
     })
     (c .before .before .capacity-count .ensures .0)
 
-pub places-spec : {M : Type 1} → statement M
-places-spec =
+pub places-of-spec : {M : Type 1} → statement M
+places-of-spec =
     tie.close
     (tie.spec
     capacity-count-requires

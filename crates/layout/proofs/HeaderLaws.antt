@@ -10,10 +10,10 @@ use borrow.Author.Tests.{leb-true}
 use Rattle.base.specs.Refusal.{unless, _⨟_}
 use Rattle.base.proofs.Refusal.{unless-zero, chain-zero}
 use Rattle.base.proofs.Below.{both-true}
-use Rattle.trace.specs.declared.Header.{Header}
-use Rattle.trace.specs.declared.Places.{Places}
-use Rattle.trace.specs.declared.LaidOut.the-variants.{At, Refused}
-use Rattle.trace.specs.Header.{modelAllowed, orderAllowed, sideAllowed, countAllowed, headerRefusal, hasCrosspoints, capacityCount, slotCountsAt, arrivalsAt, totalOf, placesOf, laidOutOf, laidOut}
+use Rattle.layout.specs.declared.Header.{Header}
+use Rattle.layout.specs.declared.Places.{Places}
+use Rattle.layout.specs.declared.LaidOut.the-variants.{At, Refused}
+use Rattle.layout.specs.Header.{modelAllowed, orderAllowed, sideAllowed, countAllowed, headerRefusal, hasCrosspoints, capacityCount, slotCountsAt, arrivalsAt, totalOf, placesOf, laidOutOf, laidOut}
 
 pub side-small : (n : ℕ) → sideAllowed n ≡ true → (1 ≤ n) × (n ≤ 16)
 unfolding sideAllowed

@@ -1,10 +1,10 @@
--- `trace::layout::header_refusal` meets its contract: each test is the definition's.
+-- `layout::header_refusal` meets its contract: each test is the definition's.
 -- Assumes nothing.
 use borrow.Author.Needs.{needs}
 use Rattle.base.proofs.Refusal.{chained, tested}
-use Rattle.trace.specs.Header.{headerRefusal, orderAllowed, countAllowed}
-use Rattle.trace.proofs.layout.header_refusal.Statement.{statement}
-use Rattle.trace.proofs.layout.header_refusal.Tie as tie
+use Rattle.layout.specs.Header.{headerRefusal, orderAllowed, countAllowed}
+use Rattle.layout.proofs.header_refusal.Statement.{statement}
+use Rattle.layout.proofs.header_refusal.Tie as tie
 
 model-allowed-requires : tie.Need-model-allowed-requires
 model-allowed-requires c κs = search needs

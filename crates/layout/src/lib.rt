@@ -1,22 +1,53 @@
-// What a header's numbers may be, and the places that they give the tables.
-use crate::Header;
-use crate::LaidOut;
-use crate::Places;
+// The header of a trace file (document 01, "The trace file"): what its numbers may be, and the places that they give the tables. Reader and writer share it.
 ghost use mathlib.Core.Path.{_≡_};
 ghost use Prim.Native.Nat.{_≤_};
-ghost use Rattle.trace.specs.Header.{modelAllowed, sideAllowed, headerRefusal, capacityCount, placesOf, laidOut};
+ghost use Rattle.layout.specs.Header.{modelAllowed, sideAllowed, headerRefusal, capacityCount, placesOf, laidOut};
+ghost use Rattle.layout.specs.Tables.{capacityAllowed};
 
-pub(crate) fn model_allowed(m: u32) -> bool
+// The header's first six words.
+pub struct Header {
+    pub model: u32,
+    pub order: u32,
+    pub ports: u32,
+    pub speedup: u32,
+    pub slots: u32,
+    pub arrivals: u32,
+}
+
+// What a header's numbers make of the file: how many capacities there are, where the slot counts and the arrivals start, and where
+// the file ends.
+pub struct Places {
+    pub capacities: usize,
+    pub counts: usize,
+    pub arrivals: usize,
+    pub total: usize,
+}
+
+// The places of a header whose numbers are allowed, or the refusal of one of them, 2 to 7.
+pub enum LaidOut {
+    At(Places),
+    Refused(u32),
+}
+
+// Whether a model is allowed: 1 CIOQ, 2 buffered crossbar.
+pub fn model_allowed(m: u32) -> bool
     ensures { λ r. ⌜ r ≡ modelAllowed m ⌝ }
 {
     m == 1 || m == 2
 }
 
-// Ports and speedup alike: 1 to 16.
-pub(crate) fn side_allowed(n: u32) -> bool
+// Whether a number of ports, or a speedup, is allowed: 1 to 16.
+pub fn side_allowed(n: u32) -> bool
     ensures { λ r. ⌜ r ≡ sideAllowed n ⌝ }
 {
     base::both(1 <= n, n <= 16)
+}
+
+// Whether a capacity is allowed: 1 to 1,024.
+pub fn capacity_allowed(c: u32) -> bool
+    ensures { λ r. ⌜ r ≡ capacityAllowed c ⌝ }
+{
+    base::both(1 <= c, c <= 1024)
 }
 
 fn header_refusal(h: Header) -> u32
@@ -48,7 +79,7 @@ fn capacity_count(h: Header) -> usize
     n * n + n
 }
 
-fn places(h: Header) -> Places
+fn places_of(h: Header) -> Places
     requires { ⌜ headerRefusal h ≡ 0 ⌝ }
     ensures { λ r. ⌜ r ≡ placesOf h ⌝ }
 {
@@ -63,12 +94,12 @@ fn places(h: Header) -> Places
     }
 }
 
-pub(crate) fn lay_out(h: Header) -> LaidOut
+pub fn lay_out(h: Header) -> LaidOut
     ensures { λ r. ⌜ r ≡ laidOut h ⌝ }
 {
     let n = header_refusal(h);
     if n != 0 {
         return LaidOut::Refused(n);
     }
-    LaidOut::At(places(h))
+    LaidOut::At(places_of(h))
 }

@@ -6,8 +6,8 @@ use mathlib.Core.Bool.{Bool, _&&_}
 use lib.Dec.{leb, ltb, eqb}
 use Rattle.base.specs.Below.{allBelow, sumBelow}
 use Rattle.base.specs.Refusal.{unless, _⨟_}
-use Rattle.trace.specs.declared.Header.{Header}
-use Rattle.trace.specs.Header.{capacityCount}
+use Rattle.layout.specs.declared.Header.{Header}
+use Rattle.layout.specs.Header.{capacityCount}
 
 -- 1 to 1,024
 unfoldable pub capacityAllowed : ℕ → Bool

@@ -1,0 +1,3 @@
+pub mod HeaderLaws
+pub mod TablesLaws
+pub mod Unique
