@@ -7,7 +7,7 @@ ghost use mathlib.Core.Path.{_≡_};
 ghost use Rattle.trace.specs.Reading.{refusalOf};
 ghost use Rattle.vaznirokh.specs.Library.{writtenNumber, takenNumber, takenWord, drainNumber, drainWord, drainQuiet};
 
-pub fn verdict_number(v: Verdict) -> u32
+pub(crate) fn verdict_number(v: Verdict) -> u32
     ensures { λ r. ⌜ r ≡ refusalOf v ⌝ }
 {
     match v {
@@ -16,7 +16,7 @@ pub fn verdict_number(v: Verdict) -> u32
     }
 }
 
-pub fn written_number(w: Written) -> u32
+pub(crate) fn written_number(w: Written) -> u32
     ensures { λ r. ⌜ r ≡ writtenNumber w ⌝ }
 {
     match w {
@@ -26,12 +26,12 @@ pub fn written_number(w: Written) -> u32
 }
 
 // An arrival's answer: its refusal, or 0 and then 1 for accepted and 2 for dropped.
-pub struct TakenWords {
+pub(crate) struct TakenWords {
     pub number: u32,
     pub word: u32,
 }
 
-pub fn taken_words(t: Taken) -> TakenWords
+pub(crate) fn taken_words(t: Taken) -> TakenWords
     ensures { λ r. ⌜ (r .number ≡ takenNumber t) × (r .word ≡ takenWord t) ⌝ }
 {
     match t {
@@ -42,13 +42,13 @@ pub fn taken_words(t: Taken) -> TakenWords
 }
 
 // A drain's answer: its refusal, or 0 and then 1 for empty and 0 for not, and the count of quiet slots.
-pub struct DrainWords {
+pub(crate) struct DrainWords {
     pub number: u32,
     pub word: u32,
     pub quiet: u32,
 }
 
-pub fn drain_words(d: Drain) -> DrainWords
+pub(crate) fn drain_words(d: Drain) -> DrainWords
     ensures { λ r. ⌜ (r .number ≡ drainNumber d) × (r .word ≡ drainWord d) × (r .quiet ≡ drainQuiet d) ⌝ }
 {
     match d {

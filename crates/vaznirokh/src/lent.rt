@@ -15,14 +15,14 @@ ghost use Rattle.image.specs.Image.{switchOf, imageOf};
 ghost use Rattle.vaznirokh.specs.Library.{lengthNumber, settled, countWords, headerOfWords, takenNumber, takenWord, drainNumber, drainWord, drainQuiet};
 
 // 30 unless a run of words has n entries.
-pub fn length_number(n: usize, words: &[u32]) -> u32
+pub(crate) fn length_number(n: usize, words: &[u32]) -> u32
     ensures { λ r. ⌜ r ≡ lengthNumber n (now (words .entry)) ⌝ }
 {
     base::unless(words.len() == n, 30)
 }
 
 // The same for the words of a switch and an answer of n words.
-pub fn lengths_number(n: usize, state: &[u32], answer: &[u32]) -> u32
+pub(crate) fn lengths_number(n: usize, state: &[u32], answer: &[u32]) -> u32
     ensures { λ r. ⌜ r ≡ (lengthNumber 1066 (now (state .entry)) ⨟ lengthNumber n (now (answer .entry))) ⌝ }
 {
     base::first(length_number(1066, state), length_number(n, answer))
@@ -42,7 +42,7 @@ fn put_counts(words: &mut [u32], counts: Counts)
 }
 
 // A whole trace.
-pub fn run(trace: &[u8], log: &mut [u32], counts: &mut [u32]) -> u32
+pub(crate) fn run(trace: &[u8], log: &mut [u32], counts: &mut [u32]) -> u32
     requires { ⌜ length (now counts) ≡ 6 ⌝ }
     ensures { λ r. ⌜ r ≡ ran (now (trace .entry)) (now (log .entry)) .refusal ⌝ }
     ensures { λ _. ⌜ now (log .exit) ≡ ranLog (now (trace .entry)) (now (log .entry)) ⌝ }
@@ -59,7 +59,7 @@ pub fn run(trace: &[u8], log: &mut [u32], counts: &mut [u32]) -> u32
 }
 
 // Six words as a header.
-pub fn header(words: &[u32]) -> Header
+pub(crate) fn header(words: &[u32]) -> Header
     ensures { λ r. ⌜ r ≡ headerOfWords (now (words .entry)) ⌝ }
 {
     Header {
@@ -81,7 +81,7 @@ fn store(state: &mut [u32], s: Switch)
 }
 
 // A new switch.
-pub fn new(trace: &[u8], state: &mut [u32]) -> u32
+pub(crate) fn new(trace: &[u8], state: &mut [u32]) -> u32
     requires { ⌜ length (now state) ≡ 1066 ⌝ }
     ensures { λ r. ⌜ r ≡ made (now (trace .entry)) .refusal ⌝ }
     ensures { λ r. ⌜ now (state .exit) ≡ settled r (imageOf (made (now (trace .entry)) .switch)) (now (state .entry)) ⌝ }
@@ -97,7 +97,7 @@ pub fn new(trace: &[u8], state: &mut [u32]) -> u32
 }
 
 // One arrival.
-pub fn arrive(state: &mut [u32], input: u32, output: u32, answer: &mut [u32]) -> u32
+pub(crate) fn arrive(state: &mut [u32], input: u32, output: u32, answer: &mut [u32]) -> u32
     requires { ⌜ (length (now state) ≡ 1066) × (length (now answer) ≡ 1) ⌝ }
     ensures { λ r. ⌜ r ≡ takenNumber (arrive (switchOf (now (state .entry))) input output .answer) ⌝ }
     ensures { λ r. ⌜ now (state .exit) ≡ settled r (imageOf (arrive (switchOf (now (state .entry))) input output .switch)) (now (state .entry)) ⌝ }
@@ -117,7 +117,7 @@ pub fn arrive(state: &mut [u32], input: u32, output: u32, answer: &mut [u32]) ->
 }
 
 // A closing.
-pub fn close(state: &mut [u32]) -> u32
+pub(crate) fn close(state: &mut [u32]) -> u32
     requires { ⌜ length (now state) ≡ 1066 ⌝ }
     ensures { λ r. ⌜ r ≡ close (switchOf (now (state .entry))) .refusal ⌝ }
     ensures { λ r. ⌜ now (state .exit) ≡ settled r (imageOf (close (switchOf (now (state .entry))) .switch)) (now (state .entry)) ⌝ }
@@ -133,7 +133,7 @@ pub fn close(state: &mut [u32]) -> u32
 }
 
 // A drain.
-pub fn drain(state: &mut [u32], limit: u32, answer: &mut [u32]) -> u32
+pub(crate) fn drain(state: &mut [u32], limit: u32, answer: &mut [u32]) -> u32
     requires { ⌜ (length (now state) ≡ 1066) × (length (now answer) ≡ 2) ⌝ }
     ensures { λ r. ⌜ r ≡ drainNumber (drain (switchOf (now (state .entry))) limit .answer) ⌝ }
     ensures { λ r. ⌜ now (state .exit) ≡ settled r (imageOf (drain (switchOf (now (state .entry))) limit .switch)) (now (state .entry)) ⌝ }
