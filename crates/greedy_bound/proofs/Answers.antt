@@ -1,6 +1,6 @@
 -- What the functions answer of a run: of an accepted trace of model 1 no switch is refused, so the answer is the limit that no rival beats. And a
--- drain with limit 4,096 at the trace's end always ends empty, and by then all that was not dropped has been sent: so in the end no rival has sent more than
--- three times what greedy accepted.
+-- drain with limit 4,096 at the trace's end always ends empty (`QuietLaws` of run), and by then all that was not dropped has been sent: so in the end no rival
+-- has sent more than three times what greedy accepted.
 -- Assumes nothing.
 use Prim.Native.Nat.{ℕ, _+_, _-_, _*_, _≤_}
 use native.Mathlib.Omega.{arith}
@@ -8,20 +8,19 @@ use mathlib.Core.Path.{_≡_, _∙_}
 use mathlib.Core.Bool.{true}
 use mathlib.Core.List.{List}
 use lib.Dec.{eqb}
-use borrow.Author.Tests.{eq-eqb, le-leb}
-use Rattle.base.specs.Refusal.{unless, _⨟_}
+use borrow.Author.Tests.{eq-eqb}
+use Rattle.base.specs.Refusal.{unless}
 use Rattle.base.proofs.Refusal.{passed}
 use Rattle.trace.specs.Reading.{headerOf, reading}
-use Rattle.layout.proofs.HeaderLaws.{allowed}
-use Rattle.trace.proofs.ReadingLaws.{whole as read-whole}
 use Rattle.switch.specs.declared.Switch.{Switch}
 use Rattle.switch.specs.declared.Drain.the-variants.{Empty}
 use Rattle.switch.specs.Allowed.{switchAllowed}
-use Rattle.switch.specs.Draining.{drainRefusal, closings, drain}
+use Rattle.switch.specs.Draining.{closings, drain}
 use Rattle.switch.proofs.AllowedLaws.{sound}
-use Rattle.switch.proofs.DrainLaws.{closings-keep, Drains, drain-ends}
+use Rattle.switch.proofs.DrainLaws.{closings-keep}
 use Rattle.run.specs.Run.{slots, whole, countsOf}
 use Rattle.run.proofs.HistoryLaws.{history-allowed, whole-allowed}
+use Rattle.run.proofs.QuietLaws.{drained-sent}
 use Rattle.bound.specs.Switch.{State}
 use Rattle.bound.specs.Rival.{Rival}
 use Rattle.greedy_bound.specs.declared.Limited.the-variants.{AtMost}
@@ -50,37 +49,12 @@ module _ (s : List ℕ) (r : reading s ≡ 0) (m : headerOf s .model ≡ 1) wher
       let b = closings-keep (whole s .switch) (a .sized) (a .allowed) n (omega (arith, a .slot)) in
       answers (closings (whole s .switch) n) (b .allowed) (b .model ∙ a .model ∙ m)
 
-  -- the drain's end
-  ends : Drains (whole s .switch) 4096
-  unfolding drainRefusal unless _⨟_
-  ends =
-      let w = whole s .switch in
-      let a = whole-allowed s r in
-      let counts = sound w (a .allowed) in
-      let header = allowed (headerOf s) (read-whole s r .header) in
-      let none : drainRefusal w 4096 ≡ 0 = rw (a .allowed, le-leb (w .slot + 4096) 8192 (omega (arith, a .slot))) in
-      drain-ends w 4096 (a .sized) none (omega (arith, counts .arrived, counts .few))
-
-  pub drain-ends-empty : (n : ℕ) × (drain (whole s .switch) 4096 .answer ≡ Empty n)
-  drain-ends-empty = (ends .quiets, rw (ends .answer))
-
-  -- by then all that was not dropped has been sent
-  pub drained-sent : drain (whole s .switch) 4096 .switch .sent ≡ whole s .switch .arrived - whole s .switch .dropped
-  drained-sent =
-      let w = whole s .switch in
-      let a = whole-allowed s r in
-      let counts = sound w (a .allowed) in
-      let header = allowed (headerOf s) (read-whole s r .header) in
-      let d = ends in
-      let b = closings-keep w (a .sized) (a .allowed) (d .quiets) (omega (arith, a .slot, d .few, counts .arrived, counts .few)) in
-      rw (d .answer) (omega (arith, sound (closings w (d .quiets)) (b .allowed) .arrived, b .arrived, b .dropped, d .empty))
-
   pub three-times-accepted : (n : ℕ) → drain (whole s .switch) 4096 .answer ≡ Empty n → (e : State) → Rival (configOf s) (traceOf s) (headerOf s .slots + n) e
       → e .sent ≤ 3 * (whole s .switch .arrived - whole s .switch .dropped)
-  three-times-accepted n d e x = rw drained-sent at (three-times-drained s r m e 4096 n d x)
+  three-times-accepted n d e x = rw (drained-sent s r) at (three-times-drained s r m e 4096 n d x)
 
   -- what `greedy_bound::of_run` makes of the run's counts: the limit at the trace's end, and three times what has been sent once a drain has emptied the switch
   pub limits-of-run : (limitsOf (countsOf (whole s .switch)) .end ≡ limitOf (whole s .switch))
       × (limitsOf (countsOf (whole s .switch)) .drained ≡ 3 * drain (whole s .switch) 4096 .switch .sent)
   unfolding limitsOf countsOf
-  limits-of-run = (omega (arith, limit-by-counts (whole s .switch) (whole-allowed s r .allowed)), omega (arith, drained-sent))
+  limits-of-run = (omega (arith, limit-by-counts (whole s .switch) (whole-allowed s r .allowed)), omega (arith, drained-sent s r))

@@ -4,6 +4,7 @@ pub mod FoldLaws
 pub mod HistoryLaws
 pub mod LossLaws
 pub mod PassingLaws
+pub mod QuietLaws
 pub mod RoomLaws
 pub mod RunLaws
 pub mod SlotsLaws

@@ -10,17 +10,18 @@ ghost use Rattle.layout.specs.Header.{hasCrosspoints};
 ghost use Rattle.trace.specs.Reading.{headerOf, reading};
 ghost use Rattle.queues.specs.declared.Queues.{Queues};
 ghost use Rattle.queues.specs.Events.{logOf, ofKind};
-ghost use Rattle.queues.specs.Log.{logged};
+ghost use Rattle.queues.specs.Log.{logged, onward};
 ghost use Rattle.queues.specs.Turn.{turn};
 ghost use Rattle.queues.specs.Lent.{Held, LeftAll};
 ghost use Rattle.switch.specs.Making.{fresh};
 ghost use Rattle.run.specs.Run.{whole};
 ghost use Rattle.run.specs.Taking.{takings, slotOf};
 
-// The queues at the end of a trace, and how many arrivals were dropped.
+// The queues at the end of a trace, how many arrivals were dropped, and how many words of the log are filled.
 pub struct Ended {
     pub queues: Queues,
     pub dropped: u32,
+    pub words: usize,
 }
 
 // One slot: the arrivals of its part of the trace, then the closing.
@@ -67,7 +68,7 @@ fn one_slot(
 
 pub(crate) fn all_slots(trace: &[u8], s: Switch, slots: u32, log: &mut [u32]) -> Ended
     requires { ⌜ (reading (now trace) ≡ 0) × (s ≡ fresh (now trace)) × (slots ≡ headerOf (now trace) .slots) ⌝ }
-    ensures { λ r. ⌜ (r .queues ≡ whole (now (trace .entry)) .switch .queues) × (r .dropped ≡ whole (now (trace .entry)) .switch .dropped) × (now (log .exit) ≡ logged (now (log .entry)) 0 (logOf (whole (now (trace .entry)) .events))) ⌝ }
+    ensures { λ r. ⌜ (r .queues ≡ whole (now (trace .entry)) .switch .queues) × (r .dropped ≡ whole (now (trace .entry)) .switch .dropped) × (now (log .exit) ≡ logged (now (log .entry)) 0 (logOf (whole (now (trace .entry)) .events))) × (r .words ≡ onward (length (now (log .entry))) 0 (length (whole (now (trace .entry)) .events))) ⌝ }
 {
     let q = s.queues;
     let incap = q.incap;
@@ -114,5 +115,6 @@ pub(crate) fn all_slots(trace: &[u8], s: Switch, slots: u32, log: &mut [u32]) ->
     Ended {
         queues: end,
         dropped,
+        words: at,
     }
 }

@@ -81,7 +81,8 @@ fn same(trace: &[u8], answer: &[u8], stored: &[u8]) -> bool {
     let mut log = [BLANK; 16384];
     let ran = run::run(trace, &mut log);
     let counts = ran.counts;
-    same_counts(answer, ran.refusal, counts, quiet_after(trace)) && same_log(stored, number(answer, 8), &log)
+    same_counts(answer, ran.refusal, counts, quiet_after(trace))
+        && same_log(stored, number(answer, 8), &log)
 }
 
 // One more, of counts that stay far below 2^32.

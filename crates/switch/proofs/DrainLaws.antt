@@ -145,24 +145,17 @@ module _ (s : Switch) (limit : ℕ) where
 
 -- what a drain whose limit is no less than what is held ends with
 pub record Drains (s : Switch) (limit : ℕ) : Type 0 where
-  pub quiets : ℕ
-  pub answer : drain s limit ≡ record { answer = Empty quiets; switch = closings s quiets }
-  pub few : quiets ≤ held s
-  pub empty : held (closings s quiets) ≡ 0
-  pub least : (n : ℕ) → n < quiets → held (closings s n) ≢ 0
+  pub answer : drain s limit ≡ record { answer = Empty (quiet s limit); switch = closings s (quiet s limit) }
+  pub few : quiet s limit ≤ held s
+  pub empty : held (closings s (quiet s limit)) ≡ 0
+  pub least : (n : ℕ) → n < quiet s limit → held (closings s n) ≢ 0
 
 pub drain-ends : (s : Switch) (limit : ℕ) → Sized (s .queues) → drainRefusal s limit ≡ 0 → held s ≤ limit → Drains s limit
 drain-ends s limit z r h =
     let may = drain-may s limit r in
     let few = quiet-few s limit z (may .0) (omega arith) in
     let within : quiet s limit ≤ limit = omega arith in
-    record {
-      quiets = quiet s limit;
-      answer = drain-empty s limit r within;
-      few = few;
-      empty = quiet-empty s limit within;
-      least = quiet-least s limit;
-    }
+    record { answer = drain-empty s limit r within; few = few; empty = quiet-empty s limit within; least = quiet-least s limit }
 
 -- a loop of closings that stops at a switch which holds nothing, and one that stops at its limit
 module _ (s : Switch) (limit n : ℕ) (w : Switch) (may : drainRefusal s limit ≡ 0) (le : n ≤ limit) (at : w ≡ closings s n) (before : (m : ℕ) → m < n → held (closings s m) ≡ 0 → ⊥) where

@@ -22,7 +22,7 @@ use Rattle.trace.proofs.ReadingLaws.{whole}
 use Rattle.slot_laws.proofs.Balance.{Sized}
 use Rattle.switch.specs.Switch.{packets, heldIn, heldOut, heldCross, heldAll, held}
 use Rattle.switch.specs.Allowed.{usedPair, queueAllowed, queuesAllowed, switchAllowed}
-use Rattle.switch.specs.Making.{capacityOfPair, inputCapacities, outputCapacities, crosspointCapacities, emptyQueues, unused, fresh}
+use Rattle.switch.specs.Making.{capacityOfPair, inputCapacities, outputCapacities, crosspointCapacities, emptyQueues, unused, fresh, nought}
 use Rattle.switch.proofs.QueuesKept.{both, all-each, kindAllowed, crossUsed, used-pair, by-kinds}
 use Rattle.switch.proofs.KeepsLaws.{allowed-by-parts}
 
@@ -98,9 +98,19 @@ fresh-sized s =
       crosslen = length-replicate {A = ℕ} 256 0;
     }
 
+-- where nothing has happened nothing is held
+module _ (model order ports speedup : ℕ) (incap outcap crosscap : List ℕ) where
+  unused-empty : held (unused model order ports speedup (emptyQueues incap outcap crosscap)) ≡ 0
+  unfolding unused emptyQueues held heldAll heldIn heldOut heldCross packets
+  unused-empty = omega (arith, zeros 256, zeros 16)
+
 pub fresh-empty : (s : List ℕ) → held (fresh s) ≡ 0
-unfolding fresh unused emptyQueues held heldAll heldIn heldOut heldCross packets
-fresh-empty s = omega (arith, zeros 256, zeros 16)
+unfolding fresh
+fresh-empty s = unused-empty _ _ _ _ _ _ _
+
+pub nought-empty : held nought ≡ 0
+unfolding nought
+nought-empty = unused-empty _ _ _ _ _ _ _
 
 pub fresh-allowed : (s : List ℕ) → reading s ≡ 0 → (switchAllowed (fresh s) ≡ true) × Sized (fresh s .queues)
 unfolding fresh unused held heldAll orderAllowed

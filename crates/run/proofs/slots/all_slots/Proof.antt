@@ -121,7 +121,7 @@ returns c = let a = c .before .before .before .before .before .before .before .b
     let pre = c .before .before .before .before .before .before .before .before .before .before .before .pre in
     let l = c .before .loop in
     let here = here-end (now (a .trace)) (pre .0) (l .t) _ _ _ _ _ _ _ (omega (arith, pre .2)) (l .inv .6) in
-    (queues-here (now (a .trace)) (pre .0) (a .s .queues) _ _ _ _ _ _ _ (ap (λ (w : Switch). w .queues) (pre .1)) here, here .of-dropped, here .of-log)
+    (queues-here (now (a .trace)) (pre .0) (a .s .queues) _ _ _ _ _ _ _ (ap (λ (w : Switch). w .queues) (pre .1)) here, here .of-dropped, here .of-log, here .of-at)
 
 pub all-slots-spec : {M : Type 1} → statement M
 all-slots-spec =
