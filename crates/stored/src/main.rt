@@ -2,8 +2,8 @@
 // the quiet slots of a drain, and the whole lent log. Prints how many traces there were and how many differ.
 use run::Counts;
 use switch::Drain;
-ghost use Prim.Native.Nat.{_<_};
-ghost use Rattle.io.specs.Counts.{Counts};
+ghost use Prim.Native.Nat.{_≤_, _<_};
+ghost use lib.ListN.{length};
 
 // What the log holds before a run.
 const BLANK: u32 = 2863311530;
@@ -23,15 +23,16 @@ fn number(s: &[u8], k: u32) -> u32 {
     byte(s, p) + 256 * byte(s, p + 1) + 65536 * byte(s, p + 2) + 16777216 * byte(s, p + 3)
 }
 
-// Fills the first n bytes of a buffer from standard input, and answers how many: none where it is shorter, fewer where the input ends before.
-fn fill(buffer: &mut [u8], n: u32) -> usize
-    ensures { λ r. ⌜ Counts r (now (buffer .exit)) ⌝ }
-{
-    let end = n as usize;
-    if buffer.len() < end {
-        return 0;
+// The n bytes from a place on, as far as there are any.
+fn part(s: &[u8], at: usize, n: usize) -> &[u8] {
+    let len = s.len();
+    if len <= at {
+        return &s[len..len];
     }
-    io::read_full(0, &mut buffer[..end])
+    if len - at <= n {
+        return &s[at..len];
+    }
+    &s[at..at + n]
 }
 
 // The log: the stored words, and behind them what it held.
@@ -77,6 +78,7 @@ fn quiet_after(trace: &[u8]) -> u32 {
     }
 }
 
+// A stored trace's answer: refusal, six counts, quiet slots, the number of words, and the words.
 fn same(trace: &[u8], answer: &[u8], stored: &[u8]) -> bool {
     let mut log = [BLANK; 16384];
     let ran = run::run(trace, &mut log);
@@ -99,57 +101,39 @@ fn line(name: &[u8], n: u32) {
     io::write_all(1, b"\n");
 }
 
-// What comparing the next stored trace finds.
-enum Found {
-    Same,
-    Differs,
-    End,
+struct Tally {
+    traces: u32,
+    differ: u32,
 }
 
-fn compare_next(bytes: &mut [u8], stored: &mut [u8]) -> Found {
-    let mut length = [0u8; 4];
-    if fill(&mut length, 4) != 4 {
-        return Found::End;
+// All stored traces, one behind the other: a trace's length, the trace, its answer.
+fn compare_all(all: &[u8]) -> Tally
+    requires { ⌜ length (now all) ≤ 262144 ⌝ }
+{
+    let mut tally = Tally {
+        traces: 0,
+        differ: 0,
+    };
+    let mut at: usize = 0;
+    while at < all.len() {
+        let n = number(part(all, at, 4), 0) as usize;
+        let trace = part(all, at + 4, n);
+        let answer = part(all, at + 4 + n, 36);
+        let words = number(answer, 8) as usize;
+        let stored = part(all, at + 40 + n, 4 * words);
+        if !same(trace, answer, stored) {
+            tally.differ = more(tally.differ);
+        }
+        tally.traces = more(tally.traces);
+        at += 40 + n + 4 * words;
     }
-    let n = number(&length, 0);
-    let k = fill(bytes, n);
-    let mut answer = [0u8; 36];
-    if k != n as usize {
-        return Found::Differs;
-    }
-    if fill(&mut answer, 36) != 36 {
-        return Found::Differs;
-    }
-    let words = number(&answer, 8);
-    if 16384 < words {
-        return Found::Differs;
-    }
-    if fill(stored, 4 * words) != 4 * (words as usize) {
-        return Found::Differs;
-    }
-    let trace = &bytes[..k];
-    if same(trace, &answer, stored) {
-        return Found::Same;
-    }
-    Found::Differs
+    tally
 }
 
 fn main() {
-    let mut bytes = [0u8; 20000];
-    let mut stored = [0u8; 65536];
-    let mut traces: u32 = 0;
-    let mut differ: u32 = 0;
-    for _ in 0..1000 {
-        let found = compare_next(&mut bytes, &mut stored);
-        match found {
-            Found::End => break,
-            Found::Same => traces = more(traces),
-            Found::Differs => {
-                traces = more(traces);
-                differ = more(differ);
-            }
-        }
-    }
-    line(b"traces ", traces);
-    line(b"differ ", differ);
+    let mut buffer = [0u8; 262144];
+    let n = io::read_full(0, &mut buffer);
+    let tally = compare_all(&buffer[..n]);
+    line(b"traces ", tally.traces);
+    line(b"differ ", tally.differ);
 }
