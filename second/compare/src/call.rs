@@ -160,7 +160,7 @@ impl Call {
                 &lent.arrivals,
                 lent.out.lent(),
             ),
-            Call::New => program.new(&lent.trace, lent.state.lent()),
+            Call::New => program.new_switch(&lent.trace, lent.state.lent()),
             Call::Arrive(input, output) => {
                 program.arrive(lent.state.lent(), input, output, lent.answer.lent())
             }

@@ -75,7 +75,7 @@ impl<'a> Comparison<'a> {
         let mut total = Tally::default();
         for (place, (name, case, share)) in PARTS.iter().enumerate() {
             let first = Random::new(seed ^ (place as u64) << 56).draw();
-            let cases = (traces + share - 1) / share;
+            let cases = (traces / share).max(1);
             let before = self.compared;
             for number in 0..cases {
                 if self.different >= MOST_DIFFERENCES {

@@ -89,7 +89,7 @@ impl Program for Library {
         }
     }
 
-    fn new(&self, trace: &[u8], state: &mut [u32]) -> u32 {
+    fn new_switch(&self, trace: &[u8], state: &mut [u32]) -> u32 {
         unsafe { vaz_new(trace.as_ptr(), trace.len(), state.as_mut_ptr(), state.len()) }
     }
 

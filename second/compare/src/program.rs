@@ -21,7 +21,7 @@ pub trait Program {
         arrivals: &[u8],
         out: &mut [u8],
     ) -> u32;
-    fn new(&self, trace: &[u8], state: &mut [u32]) -> u32;
+    fn new_switch(&self, trace: &[u8], state: &mut [u32]) -> u32;
     fn arrive(&self, state: &mut [u32], input: u32, output: u32, answer: &mut [u32]) -> u32;
     fn close(&self, state: &mut [u32]) -> u32;
     fn drain(&self, state: &mut [u32], limit: u32, answer: &mut [u32]) -> u32;
@@ -78,7 +78,7 @@ impl Program for Second {
         trace::write(&tables, out).err().unwrap_or(0)
     }
 
-    fn new(&self, trace: &[u8], state: &mut [u32]) -> u32 {
+    fn new_switch(&self, trace: &[u8], state: &mut [u32]) -> u32 {
         if state.len() != WORDS {
             return LENT_LENGTH;
         }

@@ -71,9 +71,8 @@ impl Tally {
     }
 
     fn has(&self, group: &str, key: Key) -> bool {
-        self.groups
-            .get(group)
-            .map_or(false, |keys| keys.contains_key(&key))
+        let mut found = self.groups.get(group).into_iter();
+        found.any(|keys| keys.contains_key(&key))
     }
 }
 

@@ -133,8 +133,8 @@ impl Program for Faulty {
         self.number(Fault::Write, answer)
     }
 
-    fn new(&self, trace: &[u8], state: &mut [u32]) -> u32 {
-        let answer = Library.new(trace, state);
+    fn new_switch(&self, trace: &[u8], state: &mut [u32]) -> u32 {
+        let answer = Library.new_switch(trace, state);
         for place in [0, 5, 10, 1065] {
             if answer == 0 {
                 self.word(Fault::NewState(place), state, place);
