@@ -17,6 +17,7 @@
 //! - `random`   a small seeded source of numbers
 //! - `generate` seeded traces and switch values
 //! - `damage`   the same, damaged
+//! - `stored`   the file of traces with this program's answers
 
 #![forbid(unsafe_code)]
 // Queues are named [i][j] as in the paper, so loops run over port numbers.
@@ -33,6 +34,7 @@ pub mod rival;
 pub mod run;
 pub mod slot;
 pub mod steps;
+pub mod stored;
 pub mod switch;
 pub mod trace;
 

@@ -181,12 +181,12 @@ impl Switch {
             self.outmoved,
             self.sent,
         ];
-        words.extend(self.input_capacity.as_flattened());
+        words.extend(self.input_capacity.concat());
         words.extend(self.output_capacity);
-        words.extend(self.crosspoint_capacity.as_flattened());
-        words.extend(self.input_length.as_flattened());
+        words.extend(self.crosspoint_capacity.concat());
+        words.extend(self.input_length.concat());
         words.extend(self.output_length);
-        words.extend(self.crosspoint_length.as_flattened());
+        words.extend(self.crosspoint_length.concat());
         let mut image = [0; WORDS];
         image.copy_from_slice(&words);
         image

@@ -141,7 +141,7 @@ fn the_generator_covers_everything() {
     }
     assert!(ports[1..].iter().all(|times| *times > 10));
     assert!(speedups[1..].iter().all(|times| *times > 10));
-    assert!(pairs[1..].as_flattened().iter().all(|times| *times > 100));
+    assert!(pairs[1..].concat().iter().all(|times| *times > 100));
     assert!(longest > 10 && empty > 10 && dropped > 500 && held > 500);
 }
 
