@@ -5,7 +5,6 @@ use compare::program::{Program, Second};
 use second::generate;
 use second::random::Random;
 use second::trace::{self, Trace};
-use std::hint::black_box;
 use std::time::Instant;
 
 /// Each program is timed so often, the two in turn; the best time counts.
@@ -107,7 +106,7 @@ fn time_run(bytes: &[u8]) -> (f64, f64) {
     for _ in 0..TIMES {
         for (place, program) in programs().into_iter().enumerate() {
             let start = Instant::now();
-            let answer = program.run(black_box(bytes), &mut logs[place], &mut counts[place]);
+            let answer = program.run(bytes, &mut logs[place], &mut counts[place]);
             best[place] = best[place].min(start.elapsed().as_secs_f64());
             assert_eq!(answer, 0);
         }
@@ -123,13 +122,19 @@ fn time_examine(bytes: &[u8]) -> (f64, f64) {
         for (place, program) in programs().into_iter().enumerate() {
             let start = Instant::now();
             for _ in 0..EXAMINATIONS {
-                assert_eq!(program.examine(black_box(bytes)), 0);
+                assert_eq!(examine(program, bytes), 0);
             }
             let one = start.elapsed().as_secs_f64() / f64::from(EXAMINATIONS);
             best[place] = best[place].min(one);
         }
     }
     (best[0], best[1])
+}
+
+/// One examination, which the compiler cannot take out of the loop.
+#[inline(never)]
+fn examine(program: &dyn Program, bytes: &[u8]) -> u32 {
+    program.examine(bytes)
 }
 
 /// The two programs, in the order of the table.
