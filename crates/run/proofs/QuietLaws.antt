@@ -1,7 +1,7 @@
 -- After an accepted trace a drain with limit 4,096 is not refused and ends empty, after as many closings as are quiet; and by then all that was not dropped has
 -- been sent. For the trace ends at slot 4,096 at the latest, and holds at most the 4,096 that arrived.
 -- Assumes nothing.
-use Prim.Native.Nat.{ℕ, _+_, _-_, _≤_}
+use Prim.Native.Nat.{ℕ, _+_, _-_}
 use native.Mathlib.Omega.{arith}
 use mathlib.Core.Path.{_≡_, ap}
 use mathlib.Core.List.{List}
@@ -11,7 +11,6 @@ use Rattle.trace.specs.Reading.{reading}
 use Rattle.trace.proofs.SlotsLaws.{slots-few}
 use Rattle.switch.specs.declared.Drain.the-variants.{Empty}
 use Rattle.switch.specs.declared.Drained.{Drained}
-use Rattle.switch.specs.Switch.{held}
 use Rattle.switch.specs.Draining.{drainRefusal, closings, quiet, drain}
 use Rattle.switch.proofs.AllowedLaws.{sound}
 use Rattle.switch.proofs.DrainLaws.{closings-keep, Drains, drain-ends}
