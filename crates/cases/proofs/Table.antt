@@ -23,7 +23,7 @@ use Rattle.switch.specs.Steps.{closeStep}
 use Rattle.switch.specs.Draining.{drainRefusal, closings, quiet, drainedAs, drainAnswer, drain}
 use Rattle.switch.specs.Making.{capacityOfPair, inputCapacities, outputCapacities, crosspointCapacities, emptyQueues, unused, fresh}
 use Rattle.run.specs.Run.{grown, arriving, arrivals, closed, slots, whole, wordsEach, roomNeeded, running, countsOf, noCounts, ranAs, logAs, ran, ranLog}
-use Rattle.run.specs.Loss.{perThousand}
+use Rattle.loss.specs.Loss.{perThousand}
 use Rattle.cases.specs.Cases.{Row, Found, find, table}
 
 pub cases-hold : map (λ (r : Row). find (r .file) (r .room) (r .limit)) table ≡ map (λ (r : Row). r .found) table

@@ -8,7 +8,7 @@ use lib.ListN.{length, replicate}
 use Rattle.run.specs.declared.Counts.{Counts}
 use Rattle.run.specs.declared.Ran.{Ran}
 use Rattle.run.specs.Run.{whole, running, ran, ranLog}
-use Rattle.run.specs.Loss.{perThousand}
+use Rattle.loss.specs.Loss.{perThousand}
 use Rattle.switch.specs.declared.Drain.{Drain}
 use Rattle.switch.specs.declared.Drain.the-variants.{Empty, NotEmpty, Refused}
 use Rattle.switch.specs.Draining.{drain}

@@ -2,7 +2,6 @@ pub mod CountsLaws
 pub mod EndingLaws
 pub mod FoldLaws
 pub mod HistoryLaws
-pub mod LossLaws
 pub mod PassingLaws
 pub mod QuietLaws
 pub mod RoomLaws

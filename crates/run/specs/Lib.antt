@@ -1,4 +1,3 @@
 pub mod Ending
-pub mod Loss
 pub mod Run
 pub mod Taking
