@@ -135,19 +135,6 @@ pub enum Call {
 }
 
 impl Call {
-    /// The function's name.
-    pub fn name(self) -> &'static str {
-        match self {
-            Call::Examine => "examine",
-            Call::Run => "run",
-            Call::Write => "write",
-            Call::New => "new",
-            Call::Arrive(_, _) => "arrive",
-            Call::Close => "close",
-            Call::Drain(_) => "drain",
-        }
-    }
-
     /// Makes the call.
     fn make(self, program: &dyn Program, lent: &mut Lent) -> u32 {
         match self {

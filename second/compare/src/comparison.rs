@@ -77,6 +77,7 @@ impl<'a> Comparison<'a> {
             let first = Random::new(seed ^ (place as u64) << 56).draw();
             let cases = (traces / share).max(1);
             let before = self.compared;
+            println!("{name}: {cases} cases from seed {first}");
             for number in 0..cases {
                 if self.different >= MOST_DIFFERENCES {
                     println!("stopped at {MOST_DIFFERENCES} differences");
@@ -88,9 +89,8 @@ impl<'a> Comparison<'a> {
                     println!("  once more: compare --case {name} {case_seed}");
                 }
             }
-            let calls = self.compared - before;
-            println!("{name}: {cases} cases from seed {first}, {calls} calls compared");
             self.tally.print();
+            println!("  {} calls compared", self.compared - before);
             total.add(&self.tally);
             self.tally = Tally::default();
         }

@@ -30,6 +30,8 @@ fn main() {
     }
     println!("Ports are drawn from seed {SEED}, all alike.");
     println!("Best of {TIMES} for each program, in turn, in one process.");
+    println!("Times are by the wall clock: on a busy machine the longer ones come out too great,");
+    println!("and so do the ratios at speedup 16.");
     println!("The log is lent as it is: no buffer is cleared between runs.");
     println!("The second program has its overflow checks on; both are release builds.");
     println!("A ratio above 1 says that the proved program is the faster one.");
