@@ -1,13 +1,16 @@
--- Texts on a page: one byte, no text, and one text behind another.
+-- Texts on a page: one byte, no text, and one text behind another; the next place stays within the page.
 -- Assumes nothing.
-use Prim.Native.Nat.{ℕ, suc, _+_, _≤_, _<_}
+use Prim.Native.Nat.{ℕ, zero, suc, _+_, _≤_, _<_}
 use native.Mathlib.Numerals.{add-one}
 use native.Mathlib.Omega.{arith}
 use mathlib.Core.Path.{_≡_, refl, sym, ap, _∙_}
+use mathlib.Core.Logic.{⊎-elim}
 use mathlib.Core.List.{List, [], _∷_, _++_}
 use lib.ListN.{length, getD, set, take, length-append}
-use lib.Seq.{take-suc, take-all}
+use lib.Seq.{take-suc, take-all, length-take-le}
 use borrow.Author.Tests.{lt-ltb, le-ltb}
+use Rattle.base.proofs.Order.{le-or-lt}
+use Rattle.io.specs.Counts.{Counts}
 use Rattle.queues.specs.Log.{entered, logged, onward}
 use Rattle.queues.proofs.LogLaws.{length-logged, logged-past, logged-then, onward-past, onward-then}
 use Rattle.text.specs.Text.{Written}
@@ -64,3 +67,19 @@ one-more text k h a b = same (sym (ap (λ (n : ℕ). take n text) (add-one k) �
 -- and all of them
 pub all-of : {page after : List ℕ} {at next : ℕ} (text : List ℕ) (k : ℕ) → length text ≤ k → Written page at (take k text) after next → Written page at text after next
 all-of text k h a = same (take-all k text h) a
+
+-- the next place is no further than the page's end
+onward-bound : (n at k : ℕ) → at ≤ n → onward n at k ≤ n
+unfolding onward
+onward-bound n at zero h = h
+onward-bound n at (suc k) h =
+    ⊎-elim
+    (λ (past : n ≤ at). rw (le-ltb at n past) (onward-bound n at k h))
+    (λ (within : at < n). rw (lt-ltb at n within) (onward-bound n (suc at) k within))
+    (le-or-lt n at)
+
+-- so what was written from the page's start on is counted by it, and can be lent
+pub counted : {page after : List ℕ} {next : ℕ} {text : List ℕ} → Written page 0 text after next → Counts next after
+counted {page} {after} {next} {text} a =
+    let bound : next ≤ length after = omega (arith, a .of-next, onward-bound (length page) 0 (length text) (omega arith), page-length a) in
+    (bound, sym (length-take-le next after bound))
