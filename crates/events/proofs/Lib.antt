@@ -1,3 +1,4 @@
+pub mod FilledLaws
 pub mod LinesCases
 pub mod LinesLaws
 pub mod Unique
