@@ -1,0 +1,5 @@
+pub mod FilledLaws
+pub mod LinesCases
+pub mod LinesLaws
+pub mod Unique
+pub mod WordsLaws

@@ -1,0 +1,4 @@
+pub mod PlacesLaws
+pub mod TextCases
+pub mod Unique
+pub mod WrittenLaws
