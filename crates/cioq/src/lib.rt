@@ -59,6 +59,9 @@ fn pick(
     requires { ⌜ n ≤ 16 ⌝ }
     ensures { λ r. ⌜ r ≡ chosen n (now (outcap .entry)) (now (inlen .entry)) (now (outlen .entry)) (now (taken .entry)) i ⌝ }
 {
+    if queues::row_empty(inlen, i) {
+        return n;
+    }
     let mut j: usize = 0;
     while j < n {
         if may_take(i, j, outcap, inlen, outlen, taken) {

@@ -44,8 +44,12 @@ pub fn then(w: Went, v: Went) -> Went
 
 // The lowest output whose input queue is not empty and whose crosspoint is not full, or N.
 fn crossing(ports: u32, i: u32, crosscap: &[u32], inlen: &[u32], crosslen: &[u32]) -> u32
+    requires { ⌜ ports ≤ 16 ⌝ }
     ensures { λ r. ⌜ r ≡ crossing ports (now (crosscap .entry)) (still (now (inlen .entry)) (now (crosslen .entry))) i ⌝ }
 {
+    if queues::row_empty(inlen, i) {
+        return ports;
+    }
     let mut j: u32 = 0;
     while j < ports {
         let k = place(i, j);
@@ -98,6 +102,7 @@ fn cross(
     log: &mut [u32],
     at: usize,
 ) -> Went
+    requires { ⌜ n ≤ 16 ⌝ }
     ensures { λ r. ⌜ Left (crossStep n (now (crosscap .entry)) (still (now (inlen .entry)) (now (crosslen .entry))) slot cycle i) (now (inlen .exit)) (now (crosslen .exit)) (now (log .entry)) (now (log .exit)) at r ⌝ }
 {
     let j = crossing(n, i, crosscap, inlen, crosslen);
@@ -134,7 +139,7 @@ fn inputs(
     log: &mut [u32],
     at: usize,
 ) -> Went
-    requires { ⌜ n ≤ length (now turn) ⌝ }
+    requires { ⌜ (n ≤ length (now turn)) × (n ≤ 16) ⌝ }
     ensures { λ r. ⌜ Left (inputPart n (take n (now (turn .entry))) (now (crosscap .entry)) (now (inlen .entry)) (now (crosslen .entry)) slot cycle) (now (inlen .exit)) (now (crosslen .exit)) (now (log .entry)) (now (log .exit)) at r ⌝ }
 {
     let mut done = Went {
@@ -156,6 +161,9 @@ fn outmover(n: u32, turn: &[u32], crosslen: &[u32], j: u32) -> u32
     requires { ⌜ n ≤ length (now turn) ⌝ }
     ensures { λ r. ⌜ r ≡ outmover (take n (now (turn .entry))) (still (now (crosslen .entry)) []) j ⌝ }
 {
+    if queues::column_empty(crosslen, j) {
+        return n;
+    }
     let mut u: u32 = 0;
     while u < n {
         let i = turn[u as usize];

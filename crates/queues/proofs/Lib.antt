@@ -1,3 +1,4 @@
+pub mod EmptyLaws
 pub mod LeftLaws
 pub mod LogLaws
 pub mod QueuesLaws

@@ -1,4 +1,5 @@
 pub mod Queues
+pub mod Empty
 pub mod Events
 pub mod Turn
 pub mod Log

@@ -9,7 +9,7 @@ use Rattle.crossbar.proofs.cross.Statement.{statement}
 use Rattle.crossbar.proofs.cross.Tie as tie
 
 crossing-requires : tie.Need-crossing-requires
-crossing-requires c κs = tt
+crossing-requires c κs = search needs
 
 place-requires : tie.Need-place-requires
 place-requires c κs = tt

@@ -13,6 +13,7 @@ use Rattle.base.proofs.Lowest.{lowest-found, lowest-none}
 use Rattle.queues.specs.Queues.{place, waits, hasRoom}
 use Rattle.queues.specs.Flow.{still}
 use Rattle.queues.specs.Crossbar.{crossing}
+use Rattle.queues.proofs.EmptyLaws.{row-none}
 use Rattle.crossbar.proofs.crossing.Statement.{statement}
 use Rattle.crossbar.proofs.crossing.Tie as tie
 
@@ -25,6 +26,17 @@ Inv-loop ports i crosscap inlen crosslen j₀ j = (j ≤ ports) × ((m : ℕ) �
 
 abbrev μ-loop : tie.MeasureT-loop
 μ-loop ports i crosscap inlen crosslen j₀ j = ports - j
+
+row-empty-requires : tie.Need-row-empty-requires Inv-loop μ-loop
+row-empty-requires c κs = tt
+
+-- of an input that is passed over none can move
+returns : tie.Need-returns Inv-loop μ-loop
+unfolding crossing still
+returns c = let a = c .before .before .before .before .before .args in
+    sym
+    (lowest-none (can (a .i) (now (a .crosscap)) (now (a .inlen)) (now (a .crosslen))) (a .ports)
+    (λ m h. rw (row-none (now (a .inlen)) (a .i) (sym (c .before .row-empty .ensures) ∙ c .if1 .taken) m (omega arith))))
 
 loop-holds : tie.Need-loop-holds Inv-loop μ-loop
 loop-holds c = (search needs, λ m h. absurd (not-suc-le-zero h))
@@ -45,14 +57,14 @@ both-requires c κs = tt
 tested : (i j k : ℕ) (crosscap inlen crosslen : List ℕ) (w h b : Bool) → k ≡ place i j → w ≡ waits inlen k → h ≡ hasRoom crosscap crosslen k → b ≡ (w && h) → can i crosscap inlen crosslen j ≡ b
 tested i j k crosscap inlen crosslen w h b e f g d = cc
 
-here : (c : tie.After-both Inv-loop μ-loop) → can (c .before .before .before .before .before .before .before .before .before .args .i) (now (c .before .before .before .before .before .before .before .before .before .args .crosscap)) (now (c .before .before .before .before .before .before .before .before .before .args .inlen)) (now (c .before .before .before .before .before .before .before .before .before .args .crosslen)) (c .before .before .before .before .before .loop .j) ≡ c .both .result
+here : (c : tie.After-both Inv-loop μ-loop) → can (c .before .before .before .before .before .before .before .before .before .before .before .args .i) (now (c .before .before .before .before .before .before .before .before .before .before .before .args .crosscap)) (now (c .before .before .before .before .before .before .before .before .before .before .before .args .inlen)) (now (c .before .before .before .before .before .before .before .before .before .before .before .args .crosslen)) (c .before .before .before .before .before .loop .j) ≡ c .both .result
 here c = tested _ _ _ _ _ _ _ _ _ (c .before .before .before .place .ensures) (c .before .before .waits .ensures) (c .before .has-room .ensures) (c .both .ensures)
 
-returns : tie.Need-returns Inv-loop μ-loop
+returns-2 : tie.Need-returns-2 Inv-loop μ-loop
 unfolding crossing still
-returns c = let a = c .before .before .before .before .before .before .before .before .before .before .args in
+returns-2 c = let a = c .before .before .before .before .before .before .before .before .before .before .before .before .args in
     let l = c .before .before .before .before .before .before .loop in
-    sym (lowest-found (can (a .i) (now (a .crosscap)) (now (a .inlen)) (now (a .crosslen))) (a .ports) (l .j) (omega arith) (here (c .before) ∙ c .if1 .taken) (l .inv .1))
+    sym (lowest-found (can (a .i) (now (a .crosscap)) (now (a .inlen)) (now (a .crosslen))) (a .ports) (l .j) (omega arith) (here (c .before) ∙ c .if2 .taken) (l .inv .1))
 
 add-j : tie.Need-add-j Inv-loop μ-loop
 add-j c = omega arith
@@ -61,15 +73,15 @@ loop-less : tie.Need-loop-less Inv-loop μ-loop
 loop-less c = omega arith
 
 loop-again : tie.Need-loop-again Inv-loop μ-loop
-loop-again c = let a = c .before .before .before .before .before .before .before .before .before .before .args in
+loop-again c = let a = c .before .before .before .before .before .before .before .before .before .before .before .before .args in
     let l = c .before .before .before .before .before .before .loop in (
       omega arith,
-      below-more (λ m. can (a .i) (now (a .crosscap)) (now (a .inlen)) (now (a .crosslen)) m ≡ false) (l .j) (l .inv .1) (here (c .before) ∙ c .if1 .left),
+      below-more (λ m. can (a .i) (now (a .crosscap)) (now (a .inlen)) (now (a .crosslen)) m ≡ false) (l .j) (l .inv .1) (here (c .before) ∙ c .if2 .left),
     )
 
-returns-2 : tie.Need-returns-2 Inv-loop μ-loop
+returns-3 : tie.Need-returns-3 Inv-loop μ-loop
 unfolding crossing still
-returns-2 c = let a = c .before .before .before .before .before .args in
+returns-3 c = let a = c .before .before .before .before .before .before .before .args in
     let l = c .before .loop in
     sym (lowest-none (can (a .i) (now (a .crosscap)) (now (a .inlen)) (now (a .crosslen))) (a .ports) (λ m h. l .inv .1 m (omega arith)))
 
@@ -79,13 +91,15 @@ crossing-spec =
     (tie.spec
     Inv-loop
     μ-loop
+    row-empty-requires
+    returns
     loop-holds
     place-requires
     waits-requires
     has-room-requires
     both-requires
-    returns
+    returns-2
     add-j
     loop-less
     loop-again
-    returns-2)
+    returns-3)

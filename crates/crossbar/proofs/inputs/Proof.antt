@@ -36,7 +36,7 @@ shared-slice-read-i : tie.Need-shared-slice-read-i Inv-loop μ-loop
 shared-slice-read-i c = omega arith
 
 cross-requires : tie.Need-cross-requires Inv-loop μ-loop
-cross-requires c κs = tt
+cross-requires c κs = omega arith
 
 then-requires : tie.Need-then-requires Inv-loop μ-loop
 then-requires c κs = tt
