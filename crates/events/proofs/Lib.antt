@@ -1,5 +1,1 @@
 pub mod FilledLaws
-pub mod LinesCases
-pub mod LinesLaws
-pub mod Unique
-pub mod WordsLaws
