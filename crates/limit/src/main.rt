@@ -6,6 +6,12 @@ fn line(name: &[u8], n: u64) {
     io::write_all(1, b"\n");
 }
 
+// A refusal, with its words on standard error.
+fn refuse(n: u32) {
+    line(b"refused ", n as u64);
+    refusal_text::told(n);
+}
+
 fn main() {
     let mut buffer = [0u8; 17481];
     let n = io::read_full(0, &mut buffer);
@@ -14,11 +20,11 @@ fn main() {
     let ran = run::run(trace, &mut log);
     io::write_all(1, b"name value\n");
     if ran.refusal != 0 {
-        line(b"refused ", ran.refusal as u64);
+        refuse(ran.refusal);
         return;
     }
     if trace::head(trace).model != 1 {
-        line(b"refused ", 2);
+        refuse(2);
         return;
     }
     let limits = greedy_bound::of_run(ran.counts);

@@ -2,6 +2,8 @@
 // (trace/proofs/LongLaws).
 mod report; // report.rt: the text
 
+use trace::Verdict;
+
 fn main() {
     let mut buffer = [0u8; 17481];
     let n = io::read_full(0, &mut buffer);
@@ -9,4 +11,10 @@ fn main() {
     let mut page = [0u8; 512];
     let length = report::report(trace, &mut page);
     io::write_all(1, &page[..length]);
+    match trace::examine(trace) {
+        Verdict::Accepted(_) => {}
+        Verdict::Refused(n) => {
+            refusal_text::told(n);
+        }
+    }
 }

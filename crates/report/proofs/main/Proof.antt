@@ -32,8 +32,23 @@ slice-aggregate-write-all c = counted (c .before .before .report .ensures) .1
 write-all-requires : tie.Need-write-all-requires
 write-all-requires c κs = search needs
 
+examine-requires : tie.Need-examine-requires
+examine-requires c κs = search needs
+
+enum-told : tie.Need-enum-told
+enum-told c = search needs
+
+enum-known-n : tie.Need-enum-known-n
+enum-known-n c = search needs
+
+told-requires : tie.Need-told-requires
+told-requires c κs = search needs
+
 returns : tie.Need-returns
 returns c = search needs
+
+returns-2 : tie.Need-returns-2
+returns-2 c = search needs
 
 pub main-spec : {M : Type 1} → statement M
 main-spec =
@@ -48,4 +63,9 @@ main-spec =
     array-share-prefix-page
     slice-aggregate-write-all
     write-all-requires
-    returns)
+    examine-requires
+    enum-told
+    enum-known-n
+    told-requires
+    returns
+    returns-2)
