@@ -1,3 +1,4 @@
 pub mod LeftLaws
+pub mod ColumnsLaws
 pub mod CrossbarLaws
 pub mod Unique

@@ -1,11 +1,11 @@
 // The two parts of a cycle of the buffered crossbar, in place on lent queues (document 01, "One slot"). A switch has at most 16 ports: more
 // are not looked at.
 ghost use mathlib.Core.Path.{_≡_};
-ghost use mathlib.Core.Bool.{true, _||_};
+ghost use mathlib.Core.Bool.{true, false, _||_};
 ghost use mathlib.Core.List.{[]};
-ghost use Prim.Native.Nat.{_≤_, min};
-ghost use lib.ListN.{length, take};
-ghost use Rattle.queues.specs.Queues.{place, hasRoom};
+ghost use Prim.Native.Nat.{ℕ, _≤_, _<_, min};
+ghost use lib.ListN.{length, take, getD};
+ghost use Rattle.queues.specs.Queues.{place, waits, hasRoom};
 ghost use Rattle.queues.specs.Flow.{still, flowed};
 ghost use Rattle.queues.specs.Crossbar.{crossing, inputPart, outmover, outputPart};
 ghost use Rattle.queues.specs.Lent.{Left};
@@ -156,14 +156,39 @@ fn inputs(
     done
 }
 
+// Row i of the crosspoints: each packet leaves a bit for its output.
+fn add_row(crosslen: &[u32], i: usize, bits: &mut [u32; 16])
+    requires { ⌜ (length (now crosslen) ≡ 256) × (length (now bits) ≡ 16) × (i < 16) ⌝ }
+    ensures { λ _. ⌜ (length (now (bits .exit)) ≡ 16) × ((j : ℕ) → j < 16 → getD (now (bits .exit)) j 0 ≡ 0 → (getD (now (bits .entry)) j 0 ≡ 0) × (getD (now (crosslen .entry)) (place i j) 0 ≡ 0)) ⌝ }
+{
+    let mut j: usize = 0;
+    while j < 16 {
+        bits[j] |= crosslen[i * 16 + j];
+        j += 1;
+    }
+}
+
+// For each output a number that is 0 only where no crosspoint has a packet for it. Only of 16 × 16 crosspoints; of others none is 0.
+fn columns(crosslen: &[u32]) -> [u32; 16]
+    ensures { λ r. ⌜ ((i j : ℕ) → j < 16 → getD r j 0 ≡ 0 → waits (now (crosslen .entry)) (place i j) ≡ false) ⌝ }
+{
+    if crosslen.len() != 256 {
+        return [1u32; 16];
+    }
+    let mut bits = [0u32; 16];
+    let mut i: usize = 0;
+    while i < 16 {
+        add_row(crosslen, i, &mut bits);
+        i += 1;
+    }
+    bits
+}
+
 // The place in turn of the first input that has a packet for output j at its crosspoint, or N.
 fn outmover(n: u32, turn: &[u32], crosslen: &[u32], j: u32) -> u32
     requires { ⌜ n ≤ length (now turn) ⌝ }
     ensures { λ r. ⌜ r ≡ outmover (take n (now (turn .entry))) (still (now (crosslen .entry)) []) j ⌝ }
 {
-    if queues::column_empty(crosslen, j) {
-        return n;
-    }
     let mut u: u32 = 0;
     while u < n {
         let i = turn[u as usize];
@@ -175,7 +200,7 @@ fn outmover(n: u32, turn: &[u32], crosslen: &[u32], j: u32) -> u32
     n
 }
 
-// One packet moves to output j, unless it is full or no input has one for it.
+// One packet moves to output j, unless it is full or no input has one for it. Where that is known already (`none`) no input is asked.
 fn outmove(
     n: u32,
     turn: &[u32],
@@ -187,10 +212,17 @@ fn outmove(
     outlen: &mut [u32],
     log: &mut [u32],
     at: usize,
+    none: bool,
 ) -> Went
-    requires { ⌜ n ≤ length (now turn) ⌝ }
+    requires { ⌜ (n ≤ length (now turn)) × (none ≡ true → (i : ℕ) → waits (now crosslen) (place i j) ≡ false) ⌝ }
     ensures { λ r. ⌜ Left (outmoveStep (take n (now (turn .entry))) (now (outcap .entry)) (still (now (crosslen .entry)) (now (outlen .entry))) slot cycle j) (now (crosslen .exit)) (now (outlen .exit)) (now (log .entry)) (now (log .exit)) at r ⌝ }
 {
+    if none {
+        return Went {
+            at: at,
+            moved: false,
+        };
+    }
     let room = queues::has_room(outcap, outlen, j as usize);
     if !room {
         return Went {
@@ -221,7 +253,7 @@ fn outmove(
     }
 }
 
-// The first n outputs, ascending.
+// The first n outputs, ascending. What no crosspoint holds at the start none holds later in the part.
 fn outputs(
     n: u32,
     turn: &[u32],
@@ -233,9 +265,10 @@ fn outputs(
     log: &mut [u32],
     at: usize,
 ) -> Went
-    requires { ⌜ n ≤ length (now turn) ⌝ }
+    requires { ⌜ (n ≤ length (now turn)) × (n ≤ 16) ⌝ }
     ensures { λ r. ⌜ Left (outputPart n (take n (now (turn .entry))) (now (outcap .entry)) (now (crosslen .entry)) (now (outlen .entry)) slot cycle) (now (crosslen .exit)) (now (outlen .exit)) (now (log .entry)) (now (log .exit)) at r ⌝ }
 {
+    let bits = columns(crosslen);
     let mut done = Went {
         at: at,
         moved: false,
@@ -253,6 +286,7 @@ fn outputs(
             outlen,
             log,
             done.at,
+            bits[j as usize] == 0,
         );
         done = then(done, one);
         j += 1;

@@ -12,8 +12,6 @@ use Rattle.queues.proofs.has_room.Kinds as has-room-kinds
 use Rattle.queues.proofs.has_room.Reads as has-room
 use Rattle.queues.proofs.row_empty.Kinds as row-empty-kinds
 use Rattle.queues.proofs.row_empty.Reads as row-empty
-use Rattle.queues.proofs.column_empty.Kinds as column-empty-kinds
-use Rattle.queues.proofs.column_empty.Reads as column-empty
 use Rattle.queues.proofs.leave.Kinds as leave-kinds
 use Rattle.queues.proofs.leave.Reads as leave
 use Rattle.queues.proofs.join.Kinds as join-kinds
@@ -38,9 +36,6 @@ has-room-one κs a x y d e = determined
 
 pub row-empty-one : OneAnswer 1 row-empty-kinds.ps row-empty-kinds.r row-empty.Post
 row-empty-one κs a x y d e = determined
-
-pub column-empty-one : OneAnswer 1 column-empty-kinds.ps column-empty-kinds.r column-empty.Post
-column-empty-one κs a x y d e = determined
 
 pub leave-one : OneShown 1 leave-kinds.ps leave-kinds.r (λ κs x d. now (d .0)) leave.Post
 leave-one κs a x y d e = determined

@@ -1,5 +1,5 @@
--- Whether all queues of an input, or all for an output, are empty. No rule of the paper: it lets the code pass over an input or an output without
--- a look at its queues one by one. It is asked of 16 × 16 queues; of other lists, and past the last port, the answer is no.
+-- Whether all queues of an input are empty. No rule of the paper: it lets the code pass over an input without a look at its queues one by one. It is
+-- asked of 16 × 16 queues; of other lists, and past the last input, the answer is no.
 use Prim.Native.Nat.{ℕ}
 use mathlib.Core.Bool.{Bool, _&&_}
 use mathlib.Core.List.{List}
@@ -8,10 +8,5 @@ use lib.Dec.{eqb, ltb}
 use Rattle.base.specs.Below.{allBelow}
 use Rattle.queues.specs.Queues.{place}
 
--- the queues of input i
 unfoldable pub rowEmpty : List ℕ → ℕ → Bool
 rowEmpty l i = eqb (length l) 256 && (ltb i 16 && allBelow (λ j. eqb (getD l (place i j) 0) 0) 16)
-
--- the queues for output j
-unfoldable pub columnEmpty : List ℕ → ℕ → Bool
-columnEmpty l j = eqb (length l) 256 && (ltb j 16 && allBelow (λ i. eqb (getD l (place i j) 0) 0) 16)

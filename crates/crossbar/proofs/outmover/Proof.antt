@@ -12,7 +12,6 @@ use lib.ListN.{getD}
 use borrow.Author.Count.{below-more}
 use Rattle.base.proofs.Lowest.{lowest-found, lowest-none}
 use Rattle.queues.specs.Queues.{place, waits}
-use Rattle.queues.proofs.EmptyLaws.{column-none}
 use Rattle.crossbar.proofs.CrossbarLaws.{outmover-is}
 use Rattle.crossbar.proofs.outmover.Statement.{statement}
 use Rattle.crossbar.proofs.outmover.Tie as tie
@@ -26,16 +25,6 @@ Inv-loop n turn crosslen j u₀ u = (u ≤ n) × ((m : ℕ) → m < u → has tu
 
 abbrev μ-loop : tie.MeasureT-loop
 μ-loop n turn crosslen j u₀ u = n - u
-
-column-empty-requires : tie.Need-column-empty-requires Inv-loop μ-loop
-column-empty-requires c κs = tt
-
--- for an output that is passed over no input has a packet
-returns : tie.Need-returns Inv-loop μ-loop
-returns c = let a = c .before .before .before .before .args in
-    sym (outmover-is (a .n) (now (a .turn)) (omega arith) (now (a .crosslen)) (a .j)
-    ∙ lowest-none (has (now (a .turn)) (now (a .crosslen)) (a .j)) (a .n)
-    (λ m h. column-none (now (a .crosslen)) (a .j) (sym (c .before .column-empty .ensures) ∙ c .if1 .taken) (getD (now (a .turn)) m 0)))
 
 loop-holds : tie.Need-loop-holds Inv-loop μ-loop
 loop-holds c = (search needs, λ m h. absurd (not-suc-le-zero h))
@@ -59,14 +48,14 @@ waits-requires c κs = tt
 tested : (i j k : ℕ) (crosslen : List ℕ) (b : Bool) → k ≡ place i j → b ≡ waits crosslen k → waits crosslen (place i j) ≡ b
 tested i j k crosslen b e f = cc
 
-here : (c : tie.After-waits Inv-loop μ-loop) → has (now (c .before .before .before .before .before .before .before .before .before .args .turn)) (now (c .before .before .before .before .before .before .before .before .before .args .crosslen)) (c .before .before .before .before .before .before .before .before .before .args .j) (c .before .before .before .before .loop .u) ≡ c .waits .result
+here : (c : tie.After-waits Inv-loop μ-loop) → has (now (c .before .before .before .before .before .before .before .args .turn)) (now (c .before .before .before .before .before .before .before .args .crosslen)) (c .before .before .before .before .before .before .before .args .j) (c .before .before .before .before .loop .u) ≡ c .waits .result
 here c = tested _ _ _ _ _ (c .before .place .ensures) (c .waits .ensures)
 
-returns-2 : tie.Need-returns-2 Inv-loop μ-loop
-returns-2 c = let a = c .before .before .before .before .before .before .before .before .before .before .args in
+returns : tie.Need-returns Inv-loop μ-loop
+returns c = let a = c .before .before .before .before .before .before .before .before .args in
     let l = c .before .before .before .before .before .loop in
     sym (outmover-is (a .n) (now (a .turn)) (omega arith) (now (a .crosslen)) (a .j)
-    ∙ lowest-found (has (now (a .turn)) (now (a .crosslen)) (a .j)) (a .n) (l .u) (omega arith) (here (c .before) ∙ c .if2 .taken) (l .inv .1))
+    ∙ lowest-found (has (now (a .turn)) (now (a .crosslen)) (a .j)) (a .n) (l .u) (omega arith) (here (c .before) ∙ c .if1 .taken) (l .inv .1))
 
 add-u : tie.Need-add-u Inv-loop μ-loop
 add-u c = omega arith
@@ -75,14 +64,14 @@ loop-less : tie.Need-loop-less Inv-loop μ-loop
 loop-less c = omega arith
 
 loop-again : tie.Need-loop-again Inv-loop μ-loop
-loop-again c = let a = c .before .before .before .before .before .before .before .before .before .before .args in
+loop-again c = let a = c .before .before .before .before .before .before .before .before .args in
     let l = c .before .before .before .before .before .loop in (
       omega arith,
-      below-more (λ m. has (now (a .turn)) (now (a .crosslen)) (a .j) m ≡ false) (l .u) (l .inv .1) (here (c .before) ∙ c .if2 .left),
+      below-more (λ m. has (now (a .turn)) (now (a .crosslen)) (a .j) m ≡ false) (l .u) (l .inv .1) (here (c .before) ∙ c .if1 .left),
     )
 
-returns-3 : tie.Need-returns-3 Inv-loop μ-loop
-returns-3 c = let a = c .before .before .before .before .before .before .args in
+returns-2 : tie.Need-returns-2 Inv-loop μ-loop
+returns-2 c = let a = c .before .before .before .before .args in
     let l = c .before .loop in
     sym (outmover-is (a .n) (now (a .turn)) (omega arith) (now (a .crosslen)) (a .j)
     ∙ lowest-none (has (now (a .turn)) (now (a .crosslen)) (a .j)) (a .n) (λ m h. l .inv .1 m (omega arith)))
@@ -93,16 +82,14 @@ outmover-spec =
     (tie.spec
     Inv-loop
     μ-loop
-    column-empty-requires
-    returns
     loop-holds
     cast-i
     mul-i
     shared-slice-read-i
     place-requires
     waits-requires
-    returns-2
+    returns
     add-u
     loop-less
     loop-again
-    returns-3)
+    returns-2)
