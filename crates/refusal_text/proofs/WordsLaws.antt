@@ -1,6 +1,7 @@
 -- The words of each refusal, as the code finds them.
 -- Assumes nothing.
-use Prim.Native.Nat.{ℕ}
+use Prim.Native.Nat.{ℕ, _≤_}
+use native.Mathlib.Omega.{arith}
 use mathlib.Core.Path.{_≡_}
 use borrow.Author.Tests.{ne-eqb}
 use Rattle.text.specs.Text.{ascii}
@@ -51,6 +52,10 @@ module _ (n : ℕ) where
   unfolding words
   words-11 e = rw e
 
-  pub no-words : (n ≡ 1 → ⊥) → (n ≡ 2 → ⊥) → (n ≡ 3 → ⊥) → (n ≡ 4 → ⊥) → (n ≡ 5 → ⊥) → (n ≡ 6 → ⊥) → (n ≡ 7 → ⊥) → (n ≡ 8 → ⊥) → (n ≡ 9 → ⊥) → (n ≡ 10 → ⊥) → (n ≡ 11 → ⊥) → ascii "no refusal of a trace" ≡ words n
+  pub none-words : n ≡ 0 → ascii "no refusal of a trace" ≡ words n
   unfolding words
-  no-words h1 h2 h3 h4 h5 h6 h7 h8 h9 h10 h11 = rw (ne-eqb n 1 h1, ne-eqb n 2 h2, ne-eqb n 3 h3, ne-eqb n 4 h4, ne-eqb n 5 h5, ne-eqb n 6 h6, ne-eqb n 7 h7, ne-eqb n 8 h8, ne-eqb n 9 h9, ne-eqb n 10 h10, ne-eqb n 11 h11)
+  none-words e = rw e
+
+  pub past-words : 12 ≤ n → ascii "no refusal of a trace" ≡ words n
+  unfolding words
+  past-words l = rw (ne-eqb n 1 (omega arith), ne-eqb n 2 (omega arith), ne-eqb n 3 (omega arith), ne-eqb n 4 (omega arith), ne-eqb n 5 (omega arith), ne-eqb n 6 (omega arith), ne-eqb n 7 (omega arith), ne-eqb n 8 (omega arith), ne-eqb n 9 (omega arith), ne-eqb n 10 (omega arith), ne-eqb n 11 (omega arith))

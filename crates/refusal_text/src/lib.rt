@@ -1,10 +1,12 @@
 // A trace's refusal for a person: its number with the words of document 01's table, as a line on a lent page.
 ghost use mathlib.Core.Path.{_≡_};
+ghost use Prim.Native.Nat.{_≤_};
 ghost use Rattle.text.specs.Text.{Written};
 ghost use Rattle.refusal_text.specs.Refusals.{words, refusalLine};
 
-// Given exactly when.
-fn words(page: &mut [u8], at: usize, n: u32) -> usize
+// Given exactly when. A few at a time: each text in a function makes all of its proof longer.
+fn first_words(page: &mut [u8], at: usize, n: u32) -> usize
+    requires { ⌜ (1 ≤ n) × (n ≤ 4) ⌝ }
     ensures { λ r. ⌜ Written (now (page .entry)) at (words n) (now (page .exit)) r ⌝ }
 {
     if n == 1 {
@@ -16,9 +18,13 @@ fn words(page: &mut [u8], at: usize, n: u32) -> usize
     if n == 3 {
         return text::put(page, at, b"order not allowed");
     }
-    if n == 4 {
-        return text::put(page, at, b"ports not allowed");
-    }
+    text::put(page, at, b"ports not allowed")
+}
+
+fn middle_words(page: &mut [u8], at: usize, n: u32) -> usize
+    requires { ⌜ (5 ≤ n) × (n ≤ 8) ⌝ }
+    ensures { λ r. ⌜ Written (now (page .entry)) at (words n) (now (page .exit)) r ⌝ }
+{
     if n == 5 {
         return text::put(page, at, b"speedup not allowed");
     }
@@ -28,21 +34,40 @@ fn words(page: &mut [u8], at: usize, n: u32) -> usize
     if n == 7 {
         return text::put(page, at, b"arrivals above 4,096");
     }
-    if n == 8 {
-        return text::put(
-            page,
-            at,
-            b"an offset or the total differs from what the counts make it, or the slice's length is not the total",
-        );
-    }
+    text::put(
+        page,
+        at,
+        b"an offset or the total differs from what the counts make it, or the slice's length is not the total",
+    )
+}
+
+fn last_words(page: &mut [u8], at: usize, n: u32) -> usize
+    requires { ⌜ (9 ≤ n) × (n ≤ 11) ⌝ }
+    ensures { λ r. ⌜ Written (now (page .entry)) at (words n) (now (page .exit)) r ⌝ }
+{
     if n == 9 {
         return text::put(page, at, b"a capacity not allowed");
     }
     if n == 10 {
         return text::put(page, at, b"slot counts do not add up to arrivals");
     }
-    if n == 11 {
-        return text::put(page, at, b"an arrival's port is N or more");
+    text::put(page, at, b"an arrival's port is N or more")
+}
+
+fn words(page: &mut [u8], at: usize, n: u32) -> usize
+    ensures { λ r. ⌜ Written (now (page .entry)) at (words n) (now (page .exit)) r ⌝ }
+{
+    if n == 0 {
+        return text::put(page, at, b"no refusal of a trace");
+    }
+    if n <= 4 {
+        return first_words(page, at, n);
+    }
+    if n <= 8 {
+        return middle_words(page, at, n);
+    }
+    if n <= 11 {
+        return last_words(page, at, n);
     }
     text::put(page, at, b"no refusal of a trace")
 }
