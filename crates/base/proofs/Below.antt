@@ -9,7 +9,7 @@ use mathlib.Core.Logic.{◌⊎◌, ⊎_elim}
 use mathlib.Core.Bool.{Bool, true, false, ◌&&◌, false-and, and-false}
 use mathlib.Core.List.{List, [], ◌∷◌, ◌++◌}
 use lib.ListN.{length, length-append}
-use Rattle.base.specs.Below.{all_below, sumBelow, listBelow}
+use Rattle.base.specs.Below.{all_below, sum_below, list_below}
 
 pub both_true : (a b : Bool) → (a && b) ≡ true → (a ≡ true) × (b ≡ true)
 both_true true b h = (refl, h)
@@ -36,38 +36,38 @@ module _ (f : ℕ → Bool) where
   pub all_done : (n k : ℕ) → k ≤ n → n ≤ k → all_below f k ≡ true → all_below f n ≡ true
   all_done n k h l a = let e : k ≡ n = omega arith in rw e at a
 
-  pub all-at : (n : ℕ) → all_below f n ≡ true → (k : ℕ) → k < n → f k ≡ true
+  pub all_at : (n : ℕ) → all_below f n ≡ true → (k : ℕ) → k < n → f k ≡ true
   unfolding all_below
-  all-at zero a k h = absurd (not-suc-le-zero h)
-  all-at (suc n) a k h =
+  all_at zero a k h = absurd (not-suc-le-zero h)
+  all_at (suc n) a k h =
       let both = both_true (all_below f n) (f n) a in
-      below_suc n k h (λ l. all-at n both.0 k l) (λ e. rw e both.1)
+      below_suc n k h (λ l. all_at n both.0 k l) (λ e. rw e both.1)
 
-  pub all-fails : (n k : ℕ) → k < n → f k ≡ false → all_below f n ≡ false
+  pub all_fails : (n k : ℕ) → k < n → f k ≡ false → all_below f n ≡ false
   unfolding all_below
-  all-fails zero k h b = absurd (not-suc-le-zero h)
-  all-fails (suc n) k h b =
+  all_fails zero k h b = absurd (not-suc-le-zero h)
+  all_fails (suc n) k h b =
       below_suc n k h
-      (λ l. rw (all-fails n k l b))
+      (λ l. rw (all_fails n k l b))
       (λ e. let z : f n ≡ false = subst (λ (m : ℕ). f m ≡ false) e b in rw (z, and-false))
 
-pub all-cong : (f g : ℕ → Bool) (n : ℕ) → ((k : ℕ) → k < n → f k ≡ g k) → all_below f n ≡ all_below g n
+pub all_cong : (f g : ℕ → Bool) (n : ℕ) → ((k : ℕ) → k < n → f k ≡ g k) → all_below f n ≡ all_below g n
 unfolding all_below
-all-cong f g zero e = refl
-all-cong f g (suc n) e = rw (all-cong f g n (λ k h. e k (omega arith)), e n (omega arith))
+all_cong f g zero e = refl
+all_cong f g (suc n) e = rw (all_cong f g n (λ k h. e k (omega arith)), e n (omega arith))
 
-pub sum-none : (f : ℕ → ℕ) → sumBelow f 0 ≡ 0
-unfolding sumBelow
-sum-none f = refl
+pub sum_none : (f : ℕ → ℕ) → sum_below f 0 ≡ 0
+unfolding sum_below
+sum_none f = refl
 
-pub sum_more : (f : ℕ → ℕ) (n : ℕ) → sumBelow f (n + 1) ≡ sumBelow f n + f n
-unfolding sumBelow
+pub sum_more : (f : ℕ → ℕ) (n : ℕ) → sum_below f (n + 1) ≡ sum_below f n + f n
+unfolding sum_below
 sum_more f n = rw add-one
 
-pub sum_done : (f : ℕ → ℕ) (n k x : ℕ) → k ≤ n → n ≤ k → x ≡ sumBelow f k → x ≡ sumBelow f n
+pub sum_done : (f : ℕ → ℕ) (n k x : ℕ) → k ≤ n → n ≤ k → x ≡ sum_below f k → x ≡ sum_below f n
 sum_done f n k x h l a = let e : k ≡ n = omega arith in rw e at a
 
-pub sum-cong : (f g : ℕ → ℕ) (n : ℕ) → ((k : ℕ) → k < n → f k ≡ g k) → sumBelow f n ≡ sumBelow g n
-unfolding sumBelow
-sum-cong f g zero e = refl
-sum-cong f g (suc n) e = rw (sum-cong f g n (λ k h. e k (omega arith)), e n (omega arith))
+pub sum_cong : (f g : ℕ → ℕ) (n : ℕ) → ((k : ℕ) → k < n → f k ≡ g k) → sum_below f n ≡ sum_below g n
+unfolding sum_below
+sum_cong f g zero e = refl
+sum_cong f g (suc n) e = rw (sum_cong f g n (λ k h. e k (omega arith)), e n (omega arith))

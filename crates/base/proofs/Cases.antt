@@ -7,17 +7,17 @@ use mathlib.Core.Bool.{Bool, true, false, ◌&&◌, true≢false}
 use lib.Dec.{eqb}
 use borrow.Author.Tests.{eqb-true, eqb-false}
 
-pub true-or-false : (b : Bool) → (b ≡ true) ⊎ (b ≡ false)
-true-or-false true = inl refl
-true-or-false false = inr refl
+pub true_or_false : (b : Bool) → (b ≡ true) ⊎ (b ≡ false)
+true_or_false true = inl refl
+true_or_false false = inr refl
 
-pub not-both : {b : Bool} → b ≡ true → b ≡ false → ⊥
-not-both t f = true≢false (sym t ∙ f)
+pub not_both : {b : Bool} → b ≡ true → b ≡ false → ⊥
+not_both t f = true≢false (sym t ∙ f)
 
 -- a conjunction that fails fails on its right where its left passes
-pub right-fails : (a b : Bool) → (a && b) ≡ false → a ≡ true → b ≡ false
-right-fails true b h e = h
-right-fails false b h e = absurd (not-both e refl)
+pub right_fails : (a b : Bool) → (a && b) ≡ false → a ≡ true → b ≡ false
+right_fails true b h e = h
+right_fails false b h e = absurd (not_both e refl)
 
 pub same_or_not : (a b : ℕ) → (a ≡ b) ⊎ (a ≢ b)
 same_or_not a b = go (eqb a b) refl

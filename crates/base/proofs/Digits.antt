@@ -2,7 +2,7 @@
 -- what was read are the bytes that were read. The last two are each one induction over the width.
 -- Assumes nothing.
 use Prim.Native.Nat.{ℕ, zero, suc, ◌+◌, ◌*◌, ◌/◌, ◌%◌, ◌^◌, ◌≤◌, ◌<◌, min}
-use Rattle.base.proofs.Order.{le-or-lt}
+use Rattle.base.proofs.Order.{le_or_lt}
 use native.Mathlib.Numerals.{add-one, add-two}
 use native.Mathlib.Omega.{arith}
 use mathlib.Core.Path.{◌≡◌, refl, sym, ap, ap₂, ◌∙◌}
@@ -12,16 +12,16 @@ use lib.ListN.{length, get_or, take, drop, length-append, get_or-eq_default}
 use lib.Seq.{sets, take-suc, drop-cons, length-take-le}
 use native.Mathlib.Nat.{add_comm, mul-zero, mul-suc, pow-suc, div-lt_iff_lt-mul}
 use Rattle.base.specs.Digits.{byte, number, digits, spell}
-use Rattle.base.proofs.Lists.{drop-first}
+use Rattle.base.proofs.Lists.{drop_first}
 use Rattle.base.proofs.Sets.{sets_then}
 
-pub number-two : (s : List ℕ) (p : ℕ) → number 2 s p ≡ byte s p + 256 * byte s (p + 1)
+pub number_two : (s : List ℕ) (p : ℕ) → number 2 s p ≡ byte s p + 256 * byte s (p + 1)
 unfolding number
-number-two s p = rw add-one (omega arith)
+number_two s p = rw add-one (omega arith)
 
-pub number-four : (s : List ℕ) (p : ℕ) → number 4 s p ≡ number 2 s p + 65536 * number 2 s (p + 2)
+pub number_four : (s : List ℕ) (p : ℕ) → number 4 s p ≡ number 2 s p + 65536 * number 2 s (p + 2)
 unfolding number
-number-four s p = rw add-two (omega arith)
+number_four s p = rw add-two (omega arith)
 
 -- past the end every number reads as 0
 pub number_past : (k : ℕ) (s : List ℕ) (p : ℕ) → length s ≤ p → number k s p ≡ 0
@@ -32,42 +32,42 @@ number_past (suc k) s p h =
     omega (arith, get_or-eq_default s 0 h)
 
 -- a place that is kept within the list reads the same
-pub number-kept : (k : ℕ) (s : List ℕ) (p : ℕ) → number k s (min p (length s)) ≡ number k s p
-number-kept k s p =
+pub number_kept : (k : ℕ) (s : List ℕ) (p : ℕ) → number k s (min p (length s)) ≡ number k s p
+number_kept k s p =
     ⊎_elim
     (λ (h : p ≤ length s). ap (λ (n : ℕ). number k s n) (omega arith))
     (λ (h : length s < p). number_past k s _ (omega arith) ∙ sym (number_past k s p (omega arith)))
-    (le-or-lt p (length s))
+    (le_or_lt p (length s))
 
 pub length_digits : (k v : ℕ) → length (digits k v) ≡ k
 unfolding digits
 length_digits zero v = refl
 length_digits (suc k) v = ap suc (length_digits k (v / 256))
 
-pub length-spell : (k : ℕ) (vs : List ℕ) → length (spell k vs) ≡ k * length vs
+pub length_spell : (k : ℕ) (vs : List ℕ) → length (spell k vs) ≡ k * length vs
 unfolding spell
-length-spell k [] = sym (mul-zero k)
-length-spell k (v ∷ vs) =
-    length-append (digits k v) (spell k vs) ∙ ap₂ ◌+◌ (length_digits k v) (length-spell k vs) ∙ add_comm k (k * length vs) ∙ sym (mul-suc k (length vs))
+length_spell k [] = sym (mul-zero k)
+length_spell k (v ∷ vs) =
+    length-append (digits k v) (spell k vs) ∙ ap₂ ◌+◌ (length_digits k v) (length_spell k vs) ∙ add_comm k (k * length vs) ∙ sym (mul-suc k (length vs))
 
-pub spell-append : (k : ℕ) (vs ws : List ℕ) → spell k (vs ++ ws) ≡ spell k vs ++ spell k ws
+pub spell_append : (k : ℕ) (vs ws : List ℕ) → spell k (vs ++ ws) ≡ spell k vs ++ spell k ws
 unfolding spell
-spell-append k [] ws = refl
-spell-append k (v ∷ vs) ws = rw (spell-append k vs ws, append_assoc)
+spell_append k [] ws = refl
+spell_append k (v ∷ vs) ws = rw (spell_append k vs ws, append_assoc)
 
 -- storing a table, one number more
 pub table_more : (w : ℕ) (l : List ℕ) (at : ℕ) (vs : List ℕ) (k : ℕ) → k < length vs → sets l at (spell w (take (k + 1) vs)) ≡ sets (sets l at (spell w (take k vs))) (at + w * k) (digits w (get_or vs k 0))
 unfolding spell
 table_more w l at vs k h =
     let n : length (take k vs) ≡ k = length-take-le k vs (omega arith) in
-    rw (add-one, take-suc vs k 0 h, spell-append, sets_then, length-spell w (take k vs), n, append-nil)
+    rw (add-one, take-suc vs k 0 h, spell_append, sets_then, length_spell w (take k vs), n, append-nil)
 
 -- the digits of a number that k bytes hold read back as it, wherever they stand
 pub number_digits : (k v : ℕ) (s : List ℕ) (p : ℕ) (y : List ℕ) → drop p s ≡ digits k v ++ y → v < 256 ^ k → number k s p ≡ v
 unfolding number digits
 number_digits zero v s p y e h = omega arith
 number_digits (suc k) v s p y e h =
-    let at = drop-first s p (v % 256) (digits k (v / 256) ++ y) e in
+    let at = drop_first s p (v % 256) (digits k (v / 256) ++ y) e in
     let small : v / 256 < 256 ^ k = (div-lt_iff_lt-mul {k = 256} (omega arith)).1 (rw pow-suc at h) in
     let rest : number k s (suc p) ≡ v / 256 = number_digits k (v / 256) s (suc p) y at.1 small in
     omega (arith, at.0)

@@ -7,15 +7,15 @@ use native.Mathlib.Omega.{arith}
 use Rattle.base.specs.Refusal.{unless, ◌⨟◌}
 
 -- nothing is refused exactly where the test passes
-pub unless-zero : (b : Bool) (n : ℕ) → unless b (suc n) ≡ 0 → b ≡ true
+pub unless_zero : (b : Bool) (n : ℕ) → unless b (suc n) ≡ 0 → b ≡ true
 unfolding unless
-unless-zero true n h = refl
-unless-zero false n h = absurd (omega arith)
+unless_zero true n h = refl
+unless_zero false n h = absurd (omega arith)
 
-pub chain-zero : (a b : ℕ) → (a ⨟ b) ≡ 0 → (a ≡ 0) × (b ≡ 0)
+pub chain_zero : (a b : ℕ) → (a ⨟ b) ≡ 0 → (a ≡ 0) × (b ≡ 0)
 unfolding ◌⨟◌
-chain-zero zero b h = (refl, h)
-chain-zero (suc a) b h = absurd (omega arith)
+chain_zero zero b h = (refl, h)
+chain_zero (suc a) b h = absurd (omega arith)
 
 -- a refusal decides, whatever comes after it
 pub stops : (a b : ℕ) → (a ≡ 0 → ⊥) → (a ⨟ b) ≡ a

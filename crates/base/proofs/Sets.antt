@@ -19,5 +19,5 @@ sets_more l i vs k h =
     let n : length (take k vs) ≡ k = length-take-le k vs (omega arith) in
     rw (add-one, take-suc vs k 0 h, sets_then, n)
 
-pub sets-start : (l vs : List ℕ) → length vs ≤ length l → sets l 0 vs ≡ vs ++ drop (length vs) l
-sets-start l vs h = let fits : 0 + length vs ≤ length l = omega arith in sets-eq vs l 0 fits ∙ rw zero-add
+pub sets_start : (l vs : List ℕ) → length vs ≤ length l → sets l 0 vs ≡ vs ++ drop (length vs) l
+sets_start l vs h = let fits : 0 + length vs ≤ length l = omega arith in sets-eq vs l 0 fits ∙ rw zero-add

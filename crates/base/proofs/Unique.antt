@@ -28,8 +28,8 @@ OneShown n ps r shown post = (κs : Lfts n) (a : Dens κs ps) (x y : (res_t r κ
 abbrev pub OneAnswer : (n : ℕ) (ps : List (ParamKind n)) (r : ResultKind n) → Out n ps r → Type 0
 OneAnswer n ps r = OneShown n ps r (λ κs x d. x)
 
-pub unless-one : OneAnswer 0 unless-kinds.ps unless-kinds.r unless.Post
-unless-one κs a x y d e = determined
+pub unless_one : OneAnswer 0 unless-kinds.ps unless-kinds.r unless.Post
+unless_one κs a x y d e = determined
 
 pub first_one : OneAnswer 0 first-kinds.ps first-kinds.r first.Post
 first_one κs a x y d e = determined

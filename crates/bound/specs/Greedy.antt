@@ -3,7 +3,7 @@
 -- covered. Each fact speaks of ports below N only. A history is built as an engine runs, step after step: what an engine has to bring is its states, read as
 -- `State`s, and one record for each of its steps.
 use Rattle.std.specs.Prelude.{ℕ, zero, suc, ◌+◌, ◌*◌, ◌≤◌, ◌<◌, ◌≡◌, Bool, true, false, List, [], ◌∷◌, map, length}
-use Rattle.base.specs.Below.{sumBelow}
+use Rattle.base.specs.Below.{sum_below}
 use Rattle.bound.specs.Switch.{Config, Pair, Slot, Trace, State, on, count}
 
 -- nothing held and nothing done
@@ -15,9 +15,9 @@ pub record Empty (c : Config) (g : State) : Type 0 where
 
 -- what an arrival for p does to the input queues: it is accepted if that queue is not full, otherwise dropped
 pub data Answer (c : Config) (p : Pair) (g h : State) : Type 0 where
-  accepted : g.inq p.input p.output < c.capIn p.input p.output
+  accepted : g.inq p.input p.output < c.cap_in p.input p.output
       → ((i j : ℕ) → i < c.ports → j < c.ports → h.inq i j ≡ g.inq i j + on p i j) → Answer c p g h
-  dropped : c.capIn p.input p.output ≤ g.inq p.input p.output
+  dropped : c.cap_in p.input p.output ≤ g.inq p.input p.output
       → ((i j : ℕ) → i < c.ports → j < c.ports → h.inq i j ≡ g.inq i j) → Answer c p g h
 
 -- an arrival for p takes g to h
@@ -42,7 +42,7 @@ along (p ∷ l) i j = on p i j + along l i j
 -- a pair is eligible: input queue (i, j) is not empty and output queue j is not full
 pub record Eligible (c : Config) (g : State) (i j : ℕ) : Type 0 where
   pub waits : 1 ≤ g.inq i j
-  pub room : g.outq j < c.capOut j
+  pub room : g.outq j < c.cap_out j
 
 -- a pair that a cycle from g may take: its ports exist, and it is eligible at the start of the cycle
 pub record Legal (c : Config) (g : State) (p : Pair) : Type 0 where
@@ -59,8 +59,8 @@ pub data AllLegal (c : Config) (g : State) : List Pair → Type 0 where
 -- the input or the output
 pub record Cycled (c : Config) (m : List Pair) (g h : State) : Type 0 where
   pub legal : AllLegal c g m
-  pub input-once : (i : ℕ) → i < c.ports → count (inputs m) i ≤ 1
-  pub output-once : (j : ℕ) → j < c.ports → count (outputs m) j ≤ 1
+  pub input_once : (i : ℕ) → i < c.ports → count (inputs m) i ≤ 1
+  pub output_once : (j : ℕ) → j < c.ports → count (outputs m) j ≤ 1
   pub maximal : (i j : ℕ) → i < c.ports → j < c.ports → Eligible c g i j → 1 ≤ count (inputs m) i + count (outputs m) j
   pub inq : (i j : ℕ) → i < c.ports → j < c.ports → h.inq i j + along m i j ≡ g.inq i j
   pub outq : (j : ℕ) → j < c.ports → h.outq j ≡ g.outq j + count (outputs m) j
@@ -75,14 +75,14 @@ ready false n = 0
 
 -- how many packets, 1 or 0, output j sends at the end of the slot
 abbrev pub sends : Slot → State → ℕ → ℕ
-sends slot g j = ready (slot.maySend j) (g.outq j)
+sends slot g j = ready (slot.may_send j) (g.outq j)
 
 -- the sending at the end of the slot takes g to h
 pub record Sent (c : Config) (slot : Slot) (g h : State) : Type 0 where
   pub inq : (i j : ℕ) → i < c.ports → j < c.ports → h.inq i j ≡ g.inq i j
   pub outq : (j : ℕ) → j < c.ports → h.outq j + sends slot g j ≡ g.outq j
   pub crossed : h.crossed ≡ g.crossed
-  pub sent : h.sent ≡ g.sent + sumBelow (sends slot g) c.ports
+  pub sent : h.sent ≡ g.sent + sum_below (sends slot g) c.ports
 
 -- arrivals, in this order
 pub data Arrivals (c : Config) : List Pair → State → State → Type 0 where
@@ -109,4 +109,4 @@ pub data Greedy (c : Config) (trace : Trace) : ℕ → State → Type 0 where
 
 -- the limit: three times what greedy has sent, and twice what stands in its output queues
 unfoldable pub limit : Config → State → ℕ
-limit c g = 3 * g.sent + 2 * sumBelow g.outq c.ports
+limit c g = 3 * g.sent + 2 * sum_below g.outq c.ports

@@ -32,38 +32,38 @@ abbrev pub departs : ℕ → State → State
 departs b s = record { inq = s.inq; outq = λ j. s.outq j - same b j; crossed = s.crossed; sent = s.sent + 1 }
 
 -- one packet less in input queue p, if it holds one
-abbrev pub losesIn : Pair → State → State
-losesIn p s = record { inq = λ i j. s.inq i j - on p i j; outq = s.outq; crossed = s.crossed; sent = s.sent }
+abbrev pub loses_in : Pair → State → State
+loses_in p s = record { inq = λ i j. s.inq i j - on p i j; outq = s.outq; crossed = s.crossed; sent = s.sent }
 
 -- one packet less in output queue b, if it holds one
-abbrev pub losesOut : ℕ → State → State
-losesOut b s = record { inq = s.inq; outq = λ j. s.outq j - same b j; crossed = s.crossed; sent = s.sent }
+abbrev pub loses_out : ℕ → State → State
+loses_out b s = record { inq = s.inq; outq = λ j. s.outq j - same b j; crossed = s.crossed; sent = s.sent }
 
 -- one event in a slot, from a stage and a state to the next
 pub data Step (c : Config) (slot : Slot) : Stage → State → Stage → State → Type 0 where
   -- the next arrival is accepted: its queue has room
-  accepted : {p : Pair} {l : List Pair} {s : State} → s.inq p.input p.output < c.capIn p.input p.output
+  accepted : {p : Pair} {l : List Pair} {s : State} → s.inq p.input p.output < c.cap_in p.input p.output
       → Step c slot (arriving (p ∷ l)) s (arriving l) (joins p s)
   -- the next arrival is refused, room or no room
   refused : {p : Pair} {l : List Pair} {s : State} → Step c slot (arriving (p ∷ l)) s (arriving l) s
   -- the last arrival is answered
-  arrivalsEnd : {s : State} → Step c slot (arriving []) s (crossing c.speedup [] []) s
+  arrivals_end : {s : State} → Step c slot (arriving []) s (crossing c.speedup [] []) s
   -- a packet moves: neither port is used in this cycle yet, its queue is not empty and the output queue has room
   moved : (p : Pair) {k : ℕ} {ins outs : List ℕ} {s : State} → p.input < c.ports → p.output < c.ports
       → count ins p.input ≡ 0 → count outs p.output ≡ 0
-      → 1 ≤ s.inq p.input p.output → s.outq p.output < c.capOut p.output
+      → 1 ≤ s.inq p.input p.output → s.outq p.output < c.cap_out p.output
       → Step c slot (crossing (suc k) ins outs) s (crossing (suc k) (p.input ∷ ins) (p.output ∷ outs)) (crosses p s)
   -- a cycle ends
-  cycleEnds : {k : ℕ} {ins outs : List ℕ} {s : State} → Step c slot (crossing (suc k) ins outs) s (crossing k [] []) s
+  cycle_ends : {k : ℕ} {ins outs : List ℕ} {s : State} → Step c slot (crossing (suc k) ins outs) s (crossing k [] []) s
   -- the last cycle has ended
-  cyclesEnd : {ins outs : List ℕ} {s : State} → Step c slot (crossing zero ins outs) s (sending []) s
+  cycles_end : {ins outs : List ℕ} {s : State} → Step c slot (crossing zero ins outs) s (sending []) s
   -- output j sends: it may in this slot, it has not yet, and its queue is not empty
-  sent : (j : ℕ) {outs : List ℕ} {s : State} → j < c.ports → slot.maySend j ≡ true → count outs j ≡ 0 → 1 ≤ s.outq j
+  sent : (j : ℕ) {outs : List ℕ} {s : State} → j < c.ports → slot.may_send j ≡ true → count outs j ≡ 0 → 1 ≤ s.outq j
       → Step c slot (sending outs) s (sending (j ∷ outs)) (departs j s)
   -- a packet of an input queue is discarded, at any stage
-  discardedIn : (p : Pair) {at : Stage} {s : State} → Step c slot at s at (losesIn p s)
+  discarded_in : (p : Pair) {at : Stage} {s : State} → Step c slot at s at (loses_in p s)
   -- a packet of an output queue is discarded, at any stage
-  discardedOut : (j : ℕ) {at : Stage} {s : State} → Step c slot at s at (losesOut j s)
+  discarded_out : (j : ℕ) {at : Stage} {s : State} → Step c slot at s at (loses_out j s)
 
 infixr 20 ◌then◌
 -- any number of events

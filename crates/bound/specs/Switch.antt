@@ -5,8 +5,8 @@ use Rattle.std.specs.Prelude.{ℕ, zero, suc, ◌+◌, ◌*◌, Bool, List, [], 
 -- a switch: its number of ports N, the capacity of input queue (i, j) and of output queue j, and its cycles in a slot
 pub record Config : Type 0 where
   pub ports : ℕ
-  pub capIn : ℕ → ℕ → ℕ
-  pub capOut : ℕ → ℕ
+  pub cap_in : ℕ → ℕ → ℕ
+  pub cap_out : ℕ → ℕ
   pub speedup : ℕ
 
 -- an input port and an output port
@@ -22,7 +22,7 @@ i ⇢ j = record { input = i; output = j }
 -- one slot: its arrivals in file order, and which outputs may send in it
 pub record Slot : Type 0 where
   pub arrivals : List Pair
-  pub maySend : ℕ → Bool
+  pub may_send : ℕ → Bool
 
 -- the slot of each slot number
 abbrev pub Trace : Type 0

@@ -4,8 +4,8 @@
 use Rattle.std.specs.Prelude.{ℕ, zero, suc, Bool, true, false, List, [], ◌∷◌, length, replicate}
 use Rattle.run.specs.declared.Counts.{Counts}
 use Rattle.run.specs.declared.Ran.{Ran}
-use Rattle.run.specs.Run.{whole, running, ran, ranLog}
-use Rattle.loss.specs.Loss.{perThousand}
+use Rattle.run.specs.Run.{whole, running, ran, ran_log}
+use Rattle.loss.specs.Loss.{per_thousand}
 use Rattle.switch.specs.declared.Drain.{Drain}
 use Rattle.switch.specs.declared.Drain.TheVariants.{Empty, NotEmpty, Refused}
 use Rattle.switch.specs.Draining.{drain}
@@ -24,25 +24,25 @@ pub record Row : Type 0 where
   pub found : Found
 
 -- how a drain at the end of the trace ends; a refused trace has none
-drainAt : ℕ → List ℕ → ℕ → Drain
-drainAt zero s limit = (drain (whole s).switch limit).answer
-drainAt (suc n) s limit = Refused (suc n)
+drain_at : ℕ → List ℕ → ℕ → Drain
+drain_at zero s limit = (drain (whole s).switch limit).answer
+drain_at (suc n) s limit = Refused (suc n)
 
-countsList : Counts → List ℕ
-countsList c = c.arrived ∷ c.dropped ∷ c.crossed ∷ c.outmoved ∷ c.sent ∷ c.held ∷ []
+counts_list : Counts → List ℕ
+counts_list c = c.arrived ∷ c.dropped ∷ c.crossed ∷ c.outmoved ∷ c.sent ∷ c.held ∷ []
 
 -- what the definitions find
 unfoldable pub find : List ℕ → ℕ → ℕ → Found
-unfolding drainAt countsList
+unfolding drain_at counts_list
 find s room limit =
     let log : List ℕ = replicate room 9 in
     let r = ran s log in
     record {
       refusal = r.refusal;
-      log = ranLog s log;
-      counts = countsList r.counts;
-      loss = perThousand r.counts.dropped r.counts.arrived;
-      drained = drainAt (running s (length log)) s limit;
+      log = ran_log s log;
+      counts = counts_list r.counts;
+      loss = per_thousand r.counts.dropped r.counts.arrived;
+      drained = drain_at (running s (length log)) s limit;
     }
 
 -- C1, and C10's accepted half: 15 words of log; the drain as the report prints it
@@ -435,8 +435,8 @@ gives_up =
     }
 
 -- a full output queue has no room, though it will send later in the slot
-full-output : Row
-full-output =
+full_output : Row
+full_output =
     record {
       file =
           1 ∷ 0 ∷ 0 ∷ 0 ∷ 1 ∷ 0 ∷ 0 ∷ 0 ∷ 1 ∷ 0 ∷ 0 ∷ 0 ∷ 2 ∷ 0 ∷ 0 ∷ 0 ∷ 1 ∷ 0 ∷ 0 ∷ 0 ∷ 2 ∷ 0 ∷ 0 ∷ 0 ∷ 40 ∷ 0 ∷ 0 ∷
@@ -476,8 +476,8 @@ wraps =
     }
 
 -- a crossbar's output takes the first input in turn
-crossbar-turn : Row
-crossbar-turn =
+crossbar_turn : Row
+crossbar_turn =
     record {
       file =
           2 ∷ 0 ∷ 0 ∷ 0 ∷ 2 ∷ 0 ∷ 0 ∷ 0 ∷ 2 ∷ 0 ∷ 0 ∷ 0 ∷ 1 ∷ 0 ∷ 0 ∷ 0 ∷ 2 ∷ 0 ∷ 0 ∷ 0 ∷ 2 ∷ 0 ∷ 0 ∷ 0 ∷ 40 ∷ 0 ∷ 0 ∷
@@ -497,7 +497,7 @@ crossbar-turn =
     }
 
 unfoldable pub table : List Row
-unfolding C1 C2 C3 C4-passes C4-refused C5 C6-one C6-two C7 C8 C9-rotating C9-lowest house C10 C11 C12-none C12-one gives_up full-output wraps crossbar-turn
+unfolding C1 C2 C3 C4-passes C4-refused C5 C6-one C6-two C7 C8 C9-rotating C9-lowest house C10 C11 C12-none C12-one gives_up full_output wraps crossbar_turn
 table =
     C1
     ∷ C2
@@ -517,7 +517,7 @@ table =
     ∷ C12-none
     ∷ C12-one
     ∷ gives_up
-    ∷ full-output
+    ∷ full_output
     ∷ wraps
-    ∷ crossbar-turn
+    ∷ crossbar_turn
     ∷ []

@@ -7,42 +7,42 @@ use mathlib.Core.List.{List}
 use lib.ListN.{get_or}
 use borrow.Author.Tests.{lt-ltb, le-ltb}
 use Rattle.base.proofs.Below.{both_true}
-use Rattle.base.proofs.Lowest.{lowest-passes}
+use Rattle.base.proofs.Lowest.{lowest_passes}
 use Rattle.queues.specs.declared.Went.{Went}
-use Rattle.queues.specs.Queues.{place, waits, hasRoom}
+use Rattle.queues.specs.Queues.{place, waits, has_room}
 use Rattle.queues.specs.Cioq.{eligible}
-use Rattle.cioq.specs.Visit.{mayTake, chosen, Visited, VisitedTo}
+use Rattle.cioq.specs.Visit.{may_take, chosen, Visited, VisitedTo}
 
 module _ (outcap inlen outlen : List ℕ) (flags : List Bool) (i j : ℕ) where
-  pub may-by-flag : waits inlen (place i j) ≡ true → hasRoom outcap outlen j ≡ true → mayTake outcap inlen outlen flags i j ≡ not (get_or flags j false)
-  unfolding mayTake eligible
-  may-by-flag w h = rw (w, h)
+  pub may_by_flag : waits inlen (place i j) ≡ true → has_room outcap outlen j ≡ true → may_take outcap inlen outlen flags i j ≡ not (get_or flags j false)
+  unfolding may_take eligible
+  may_by_flag w h = rw (w, h)
 
-  pub may-not-full : hasRoom outcap outlen j ≡ false → mayTake outcap inlen outlen flags i j ≡ false
-  unfolding mayTake eligible
-  may-not-full h = rw (h, and-false)
+  pub may_not_full : has_room outcap outlen j ≡ false → may_take outcap inlen outlen flags i j ≡ false
+  unfolding may_take eligible
+  may_not_full h = rw (h, and-false)
 
-  pub may-not-empty : waits inlen (place i j) ≡ false → mayTake outcap inlen outlen flags i j ≡ false
-  unfolding mayTake eligible
-  may-not-empty w = rw w
+  pub may_not_empty : waits inlen (place i j) ≡ false → may_take outcap inlen outlen flags i j ≡ false
+  unfolding may_take eligible
+  may_not_empty w = rw w
 
-  room_of : mayTake outcap inlen outlen flags i j ≡ true → hasRoom outcap outlen j ≡ true
-  unfolding mayTake eligible
+  room_of : may_take outcap inlen outlen flags i j ≡ true → has_room outcap outlen j ≡ true
+  unfolding may_take eligible
   room_of t =
-      (both_true (waits inlen (place i j)) (hasRoom outcap outlen j) (both_true (eligible outcap inlen outlen i j) (not (get_or flags j false)) t).0).1
+      (both_true (waits inlen (place i j)) (has_room outcap outlen j) (both_true (eligible outcap inlen outlen i j) (not (get_or flags j false)) t).0).1
 
-pub chosen-room : (ports : ℕ) (outcap inlen outlen : List ℕ) (flags : List Bool) (i : ℕ) → chosen ports outcap inlen outlen flags i < ports
-    → hasRoom outcap outlen (chosen ports outcap inlen outlen flags i) ≡ true
+pub chosen_room : (ports : ℕ) (outcap inlen outlen : List ℕ) (flags : List Bool) (i : ℕ) → chosen ports outcap inlen outlen flags i < ports
+    → has_room outcap outlen (chosen ports outcap inlen outlen flags i) ≡ true
 unfolding chosen
-chosen-room ports outcap inlen outlen flags i h =
-    room_of outcap inlen outlen flags i _ (lowest-passes (mayTake outcap inlen outlen flags i) ports h)
+chosen_room ports outcap inlen outlen flags i h =
+    room_of outcap inlen outlen flags i _ (lowest_passes (may_take outcap inlen outlen flags i) ports h)
 
 module _ {slot cycle i : ℕ} {inlen outlen : List ℕ} {flags : List Bool} {log : List ℕ} {w : Went} where
   -- where none was chosen all stays
   pub stays : (n k : ℕ) → n ≤ k → VisitedTo n k slot cycle i inlen outlen flags log w inlen outlen flags log w
   stays n k h =
       subst (λ (m : Bool). Visited m slot cycle i k inlen outlen flags log w inlen outlen flags log w) (sym (le-ltb k n h))
-      record { of-from = refl; of-to = refl; of-flags = refl; of-log = refl; of_at = refl; of-moved = refl }
+      record { of_from = refl; of_to = refl; of_flags = refl; of_log = refl; of_at = refl; of_moved = refl }
 
   -- below N the packet moves
   pub moves : {inlen' outlen' : List ℕ} {flags' : List Bool} {log' : List ℕ} {r : Went} (n j k : ℕ) → j ≡ k → j < n

@@ -1,9 +1,9 @@
 // One cycle of the CIOQ switch, greedy matching, in place on lent queues (document 01, "One slot").
 ghost use Rattle.std.specs.Prelude.{◌≡◌, true, ◌<◌, ◌≤◌, min, take};
-ghost use Rattle.queues.specs.Queues.{place, hasRoom};
+ghost use Rattle.queues.specs.Queues.{place, has_room};
 ghost use Rattle.queues.specs.Cioq.{matching};
 ghost use Rattle.queues.specs.Lent.{Left};
-ghost use Rattle.cioq.specs.Visit.{mayTake, chosen, Visited, VisitedTo};
+ghost use Rattle.cioq.specs.Visit.{may_take, chosen, Visited, VisitedTo};
 
 use queues::Went;
 
@@ -35,7 +35,7 @@ fn may_take(
     taken: &[bool; 16],
 ) -> bool
     requires { j < 16 }
-    ensures { result ≡ mayTake outcap.now inlen.now outlen.now taken.now i j }
+    ensures { result ≡ may_take outcap.now inlen.now outlen.now taken.now i j }
 {
     if queues::waits(inlen, place(i, j)) {
         if queues::has_room(outcap, outlen, j) {
@@ -84,7 +84,7 @@ fn cross(
     went: Went,
 ) -> Went
     requires j_bound { j < 16 }
-    requires j_value { hasRoom outcap.now outlen.old j ≡ true }
+    requires j_value { has_room outcap.now outlen.old j ≡ true }
     ensures { Visited true slot cycle i j inlen.old outlen.old taken.old log.old went inlen.new outlen.new taken.new log.new result }
 {
     queues::leave(inlen, place(i, j));

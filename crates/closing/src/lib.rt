@@ -2,9 +2,9 @@
 ghost use Rattle.std.specs.Prelude.{◌≡◌, min, take};
 ghost use Rattle.queues.specs.declared.Queues.{Queues};
 ghost use Rattle.queues.specs.Events.{happened};
-ghost use Rattle.queues.specs.Slot.{cycleOf, cycles, sendings, free, closing};
+ghost use Rattle.queues.specs.Slot.{cycle_of, cycles, sendings, free, closing};
 ghost use Rattle.queues.specs.Lent.{Held, LeftAll};
-ghost use Rattle.closing.specs.Sent.{Sent, unsent, sendStep};
+ghost use Rattle.closing.specs.Sent.{Sent, unsent, send_step};
 
 use queues::Went;
 
@@ -23,7 +23,7 @@ fn cycle(
     log: &mut [u32],
     at: usize,
 ) -> Went
-    ensures { (q : Queues) → Held q outcap.now crosscap.now inlen.old outlen.old crosslen.old → LeftAll (cycleOf crossbar q (min ports 16) (take (min ports 16) turn.now) slot cycle) inlen.new outlen.new crosslen.new log.old log.new at result.at × (result.moved ≡ happened (cycleOf crossbar q (min ports 16) (take (min ports 16) turn.now) slot cycle).events) }
+    ensures { (q : Queues) → Held q outcap.now crosscap.now inlen.old outlen.old crosslen.old → LeftAll (cycle_of crossbar q (min ports 16) (take (min ports 16) turn.now) slot cycle) inlen.new outlen.new crosslen.new log.old log.new at result.at × (result.moved ≡ happened (cycle_of crossbar q (min ports 16) (take (min ports 16) turn.now) slot cycle).events) }
 {
     if !crossbar {
         return cioq::cycle(ports, turn, slot, cycle, outcap, inlen, outlen, log, at);
@@ -70,7 +70,7 @@ fn cycles(
 
 // Output j sends one packet, unless it is empty.
 fn send(slot: u32, j: u32, outlen: &mut [u32], log: &mut [u32], at: usize) -> usize
-    ensures { Sent (sendStep (unsent outlen.old) slot j) outlen.new log.old log.new at result }
+    ensures { Sent (send_step (unsent outlen.old) slot j) outlen.new log.old log.new at result }
 {
     let some = queues::waits(outlen, j as usize);
     if !some {

@@ -13,15 +13,15 @@ use lib.Seq.{get_or-set_same, get_or-set_other}
 use lib.Bits.{bit_or, or_add_and, and_le_l, and_le_r}
 use lib.Dec.{eqb, ltb}
 use borrow.Author.Tests.{eqb-true, eqb-false, le-ltb, ltb-false}
-use Rattle.base.proofs.Cases.{true-or-false}
-use Rattle.base.proofs.Order.{le-or-lt}
-use Rattle.base.proofs.Lowest.{lowest-none}
-use Rattle.queues.specs.Queues.{place, waits, hasRoom, fewer}
+use Rattle.base.proofs.Cases.{true_or_false}
+use Rattle.base.proofs.Order.{le_or_lt}
+use Rattle.base.proofs.Lowest.{lowest_none}
+use Rattle.queues.specs.Queues.{place, waits, has_room, fewer}
 use Rattle.queues.specs.Flow.{Flow, still, flowed}
-use Rattle.queues.specs.Crossbar.{outmover, outmovedOne, outmoves}
+use Rattle.queues.specs.Crossbar.{outmover, outmoved_one, outmoves}
 use Rattle.queues.specs.Lent.{Left}
-use Rattle.crossbar.specs.Steps.{outmoveStep}
-use Rattle.crossbar.proofs.CrossbarLaws.{outmover-is, outmove-stays}
+use Rattle.crossbar.specs.Steps.{outmove_step}
+use Rattle.crossbar.proofs.CrossbarLaws.{outmover_is, outmove_stays}
 
 neither : (a b : ℕ) → bit_or a b ≡ 0 → (a ≡ 0) × (b ≡ 0)
 neither a b e = (omega (arith, or_add_and a b, and_le_r a b), omega (arith, or_add_and a b, and_le_l a b))
@@ -42,7 +42,7 @@ said_more bits bits' f k within said j h z =
     let other = eqb-false j k t in
     let before = said j h (sym (get_or-set_other bits' k j (bit_or (get_or bits' k 0) (f k)) 0 other) ∙ z) in
     (before.0, λ l. before.1 (less other l)))
-    (true-or-false (eqb j k))
+    (true_or_false (eqb j k))
   where
     less : {j k : ℕ} → (j ≡ k → ⊥) → j < k + 1 → j < k
     less {j} {k} n l = omega arith
@@ -58,30 +58,30 @@ row_more crosslen bits i said m j h w row =
     ⊎_elim
     (λ (l : i ≤ m). let e : m ≡ i = omega arith in rw e row.1)
     (λ (l : m < i). said m j l w row.0)
-    (le-or-lt i m)
+    (le_or_lt i m)
 
 -- every row; past the last there is no crosspoint
-pub all-rows : (crosslen bits : List ℕ) (k : ℕ) → length crosslen ≡ 256 → 16 ≤ k → SaidOf crosslen bits k → (i j : ℕ) → j < 16 → get_or bits j 0 ≡ 0 → waits crosslen (place i j) ≡ false
+pub all_rows : (crosslen bits : List ℕ) (k : ℕ) → length crosslen ≡ 256 → 16 ≤ k → SaidOf crosslen bits k → (i j : ℕ) → j < 16 → get_or bits j 0 ≡ 0 → waits crosslen (place i j) ≡ false
 unfolding waits place
-all-rows crosslen bits k whole all said i j w z =
+all_rows crosslen bits k whole all said i j w z =
     ⊎_elim
     (λ (past : 16 ≤ i). rw (get_or-eq_default crosslen 0 {n = i * 16 + j} (omega arith)))
     (λ (l : i < 16). rw (said i j (omega arith) w z))
-    (le-or-lt 16 i)
+    (le_or_lt 16 i)
 
 -- packets only leave the crosspoints
-fewer-falls : (l : List ℕ) (k m : ℕ) → get_or (fewer l k) m 0 ≤ get_or l m 0
+fewer_falls : (l : List ℕ) (k m : ℕ) → get_or (fewer l k) m 0 ≤ get_or l m 0
 unfolding fewer
-fewer-falls [] k m = omega arith
-fewer-falls (x ∷ l) zero zero = omega arith
-fewer-falls (x ∷ l) zero (suc m) = le_refl (get_or l m 0)
-fewer-falls (x ∷ l) (suc k) zero = le_refl x
-fewer-falls (x ∷ l) (suc k) (suc m) = fewer-falls l k m
+fewer_falls [] k m = omega arith
+fewer_falls (x ∷ l) zero zero = omega arith
+fewer_falls (x ∷ l) zero (suc m) = le_refl (get_or l m 0)
+fewer_falls (x ∷ l) (suc k) zero = le_refl x
+fewer_falls (x ∷ l) (suc k) (suc m) = fewer_falls l k m
 
-falls-one : (t : Bool) (b : Flow) (slot cycle i j k : ℕ) → get_or (outmovedOne t b slot cycle i j).from k 0 ≤ get_or b.from k 0
-unfolding outmovedOne flowed
-falls-one true b slot cycle i j k = fewer-falls b.from (place i j) k
-falls-one false b slot cycle i j k = le_refl (get_or b.from k 0)
+falls_one : (t : Bool) (b : Flow) (slot cycle i j k : ℕ) → get_or (outmoved_one t b slot cycle i j).from k 0 ≤ get_or b.from k 0
+unfolding outmoved_one flowed
+falls_one true b slot cycle i j k = fewer_falls b.from (place i j) k
+falls_one false b slot cycle i j k = le_refl (get_or b.from k 0)
 
 module _ (turn outcap crosslen outlen : List ℕ) (slot cycle : ℕ) where
   falls : (j k : ℕ) → get_or (outmoves turn outcap crosslen outlen slot cycle j).from k 0 ≤ get_or crosslen k 0
@@ -90,18 +90,18 @@ module _ (turn outcap crosslen outlen : List ℕ) (slot cycle : ℕ) where
   falls (suc j) k =
       let b = outmoves turn outcap crosslen outlen slot cycle j in
       let u = outmover turn b j in
-      le_trans (falls-one (hasRoom outcap b.to j && ltb u (length turn)) b slot cycle (get_or turn u 0) j k) (falls j k)
+      le_trans (falls_one (has_room outcap b.to j && ltb u (length turn)) b slot cycle (get_or turn u 0) j k) (falls j k)
 
   -- a crosspoint that was empty stays empty
-  pub stays-empty : (j k : ℕ) {now : List ℕ} → now ≡ (outmoves turn outcap crosslen outlen slot cycle j).from → waits crosslen k ≡ false → waits now k ≡ false
+  pub stays_empty : (j k : ℕ) {now : List ℕ} → now ≡ (outmoves turn outcap crosslen outlen slot cycle j).from → waits crosslen k ≡ false → waits now k ≡ false
   unfolding waits
-  stays-empty j k e none =
+  stays_empty j k e none =
       let less = falls j k in
       let empty = ltb-false 0 (get_or crosslen k 0) none in
       rw e (le-ltb 0 (get_or (outmoves turn outcap crosslen outlen slot cycle j).from k 0) (omega arith))
 
-pub outmove-none : (n : ℕ) (turn : List ℕ) → n ≤ length turn → (outcap crosslen outlen : List ℕ) (slot cycle j : ℕ) → ((i : ℕ) → waits crosslen (place i j) ≡ false) → (log : List ℕ) (at : ℕ)
-    → Left (outmoveStep (take n turn) outcap (still crosslen outlen) slot cycle j) crosslen outlen log log at (record { at = at; moved = false })
-outmove-none n turn few outcap crosslen outlen slot cycle j none log at =
-    let chosen = sym (outmover-is n turn few crosslen j ∙ lowest-none (λ u. waits crosslen (place (get_or turn u 0) j)) n (λ m h. none (get_or turn m 0))) in
-    outmove-stays n turn few outcap crosslen outlen slot cycle j n chosen (le_refl n) log at
+pub outmove_none : (n : ℕ) (turn : List ℕ) → n ≤ length turn → (outcap crosslen outlen : List ℕ) (slot cycle j : ℕ) → ((i : ℕ) → waits crosslen (place i j) ≡ false) → (log : List ℕ) (at : ℕ)
+    → Left (outmove_step (take n turn) outcap (still crosslen outlen) slot cycle j) crosslen outlen log log at (record { at = at; moved = false })
+outmove_none n turn few outcap crosslen outlen slot cycle j none log at =
+    let chosen = sym (outmover_is n turn few crosslen j ∙ lowest_none (λ u. waits crosslen (place (get_or turn u 0) j)) n (λ m h. none (get_or turn m 0))) in
+    outmove_stays n turn few outcap crosslen outlen slot cycle j n chosen (le_refl n) log at

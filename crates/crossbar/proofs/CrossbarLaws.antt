@@ -12,138 +12,138 @@ use lib.Dec.{ltb}
 use borrow.Author.Tests.{lt-ltb, le-ltb}
 use Rattle.base.specs.Below.{lowest}
 use Rattle.base.proofs.Below.{both_true}
-use Rattle.base.proofs.Lowest.{lowest-passes, lowest-cong}
+use Rattle.base.proofs.Lowest.{lowest_passes, lowest_cong}
 use Rattle.queues.specs.declared.Went.{Went}
-use Rattle.queues.specs.Queues.{place, waits, hasRoom}
-use Rattle.queues.specs.Events.{Event, crossedAt, outmovedAt}
+use Rattle.queues.specs.Queues.{place, waits, has_room}
+use Rattle.queues.specs.Events.{Event, crossed_at, outmoved_at}
 use Rattle.queues.specs.Flow.{Flow, still, flowed}
-use Rattle.queues.specs.Crossbar.{crossing, crossedOne, crossings, inputPart, outmover, outmovedOne, outmoves, outputPart}
+use Rattle.queues.specs.Crossbar.{crossing, crossed_one, crossings, input_part, outmover, outmoved_one, outmoves, output_part}
 use Rattle.queues.specs.Lent.{Left}
-use Rattle.crossbar.specs.Steps.{crossStep, outmoveStep}
-use Rattle.crossbar.proofs.LeftLaws.{joined, left-still, left_step}
+use Rattle.crossbar.specs.Steps.{cross_step, outmove_step}
+use Rattle.crossbar.proofs.LeftLaws.{joined, left_still, left_step}
 
 -- events added after none
-nothing-more : (b : Flow) → b ≡ joined b (still b.from b.to)
+nothing_more : (b : Flow) → b ≡ joined b (still b.from b.to)
 unfolding joined still
-nothing-more b = ap (λ (es : List Event). record { from = b.from; to = b.to; events = es }) (sym (append-nil b.events))
+nothing_more b = ap (λ (es : List Event). record { from = b.from; to = b.to; events = es }) (sym (append-nil b.events))
 
-crossed-after : (t : Bool) (b : Flow) (slot cycle i j : ℕ) → crossedOne t b slot cycle i j ≡ joined b (crossedOne t (still b.from b.to) slot cycle i j)
-unfolding crossedOne flowed still joined
-crossed-after true b slot cycle i j = refl
-crossed-after false b slot cycle i j = nothing-more b
+crossed_after : (t : Bool) (b : Flow) (slot cycle i j : ℕ) → crossed_one t b slot cycle i j ≡ joined b (crossed_one t (still b.from b.to) slot cycle i j)
+unfolding crossed_one flowed still joined
+crossed_after true b slot cycle i j = refl
+crossed_after false b slot cycle i j = nothing_more b
 
-cross-after : (ports : ℕ) (crosscap : List ℕ) (slot cycle i : ℕ) (b : Flow) → crossStep ports crosscap b slot cycle i ≡ joined b (crossStep ports crosscap (still b.from b.to) slot cycle i)
-unfolding crossStep crossing still
-cross-after ports crosscap slot cycle i b =
+cross_after : (ports : ℕ) (crosscap : List ℕ) (slot cycle i : ℕ) (b : Flow) → cross_step ports crosscap b slot cycle i ≡ joined b (cross_step ports crosscap (still b.from b.to) slot cycle i)
+unfolding cross_step crossing still
+cross_after ports crosscap slot cycle i b =
     let j = crossing ports crosscap b i in
-    crossed-after (ltb j ports) b slot cycle i j
+    crossed_after (ltb j ports) b slot cycle i j
 
 -- one input more
 module _ (ports : ℕ) (turn crosscap inlen crosslen : List ℕ) (slot cycle u : ℕ) where
-  one-more-input : crossings ports turn crosscap inlen crosslen slot cycle (u + 1) ≡ crossStep ports crosscap (crossings ports turn crosscap inlen crosslen slot cycle u) slot cycle (get_or turn u 0)
-  unfolding crossings crossStep
-  one-more-input = rw add-one
+  one_more_input : crossings ports turn crosscap inlen crosslen slot cycle (u + 1) ≡ cross_step ports crosscap (crossings ports turn crosscap inlen crosslen slot cycle u) slot cycle (get_or turn u 0)
+  unfolding crossings cross_step
+  one_more_input = rw add-one
 
-  pub input-more : {from to from' to' log kept kept' : List ℕ} {at : ℕ} {r s t : Went}
+  pub input_more : {from to from' to' log kept kept' : List ℕ} {at : ℕ} {r s t : Went}
       → Left (crossings ports turn crosscap inlen crosslen slot cycle u) from to log kept at r
-      → Left (crossStep ports crosscap (still from to) slot cycle (get_or turn u 0)) from' to' kept kept' r.at s
+      → Left (cross_step ports crosscap (still from to) slot cycle (get_or turn u 0)) from' to' kept kept' r.at s
       → t ≡ record { at = s.at; moved = r.moved || s.moved }
       → Left (crossings ports turn crosscap inlen crosslen slot cycle (u + 1)) from' to' log kept' at t
-  input-more x y e =
-      rw one-more-input
-      (left_step (λ b. crossStep ports crosscap b slot cycle (get_or turn u 0)) (cross-after ports crosscap slot cycle (get_or turn u 0)) x y e)
+  input_more x y e =
+      rw one_more_input
+      (left_step (λ b. cross_step ports crosscap b slot cycle (get_or turn u 0)) (cross_after ports crosscap slot cycle (get_or turn u 0)) x y e)
 
 -- every input
-pub all-inputs : (ports u : ℕ) (turn crosscap inlen crosslen : List ℕ) (slot cycle : ℕ) {from to log kept : List ℕ} {at : ℕ} {r : Went} → u ≡ length turn
-    → Left (crossings ports turn crosscap inlen crosslen slot cycle u) from to log kept at r → Left (inputPart ports turn crosscap inlen crosslen slot cycle) from to log kept at r
-unfolding inputPart
-all-inputs ports u turn crosscap inlen crosslen slot cycle e x = rw e at x
+pub all_inputs : (ports u : ℕ) (turn crosscap inlen crosslen : List ℕ) (slot cycle : ℕ) {from to log kept : List ℕ} {at : ℕ} {r : Went} → u ≡ length turn
+    → Left (crossings ports turn crosscap inlen crosslen slot cycle u) from to log kept at r → Left (input_part ports turn crosscap inlen crosslen slot cycle) from to log kept at r
+unfolding input_part
+all_inputs ports u turn crosscap inlen crosslen slot cycle e x = rw e at x
 
 -- one input
 module _ (n : ℕ) (crosscap inlen crosslen : List ℕ) (slot cycle i j : ℕ) (chosen : j ≡ crossing n crosscap (still inlen crosslen) i) where
-  has-crossed : j < n → crossStep n crosscap (still inlen crosslen) slot cycle i ≡ flowed (still inlen crosslen) (place i j) (place i j) (crossedAt slot cycle i j)
-  unfolding crossStep crossedOne
-  has-crossed h = rw (← chosen, lt-ltb j n h)
+  has_crossed : j < n → cross_step n crosscap (still inlen crosslen) slot cycle i ≡ flowed (still inlen crosslen) (place i j) (place i j) (crossed_at slot cycle i j)
+  unfolding cross_step crossed_one
+  has_crossed h = rw (← chosen, lt-ltb j n h)
 
-  pub room-there : j < n → hasRoom crosscap crosslen (place i j) ≡ true
+  pub room_there : j < n → has_room crosscap crosslen (place i j) ≡ true
   unfolding crossing still
-  room-there h =
-      let f : ℕ → Bool = λ j. waits inlen (place i j) && hasRoom crosscap crosslen (place i j) in
-      (both_true (waits inlen (place i j)) _ (rw (← chosen) at (lowest-passes f n (rw (← chosen) h)))).1
+  room_there h =
+      let f : ℕ → Bool = λ j. waits inlen (place i j) && has_room crosscap crosslen (place i j) in
+      (both_true (waits inlen (place i j)) _ (rw (← chosen) at (lowest_passes f n (rw (← chosen) h)))).1
 
-  pub cross-moves : j < n → {k : ℕ} → k ≡ place i j → {inlen' crosslen' log kept : List ℕ} {at : ℕ} {r : Went}
-      → Left (flowed (still inlen crosslen) (place i j) k (crossedAt slot cycle i j)) inlen' crosslen' log kept at r
-      → Left (crossStep n crosscap (still inlen crosslen) slot cycle i) inlen' crosslen' log kept at r
-  cross-moves h p x = rw (has-crossed h) (rw p at x)
+  pub cross_moves : j < n → {k : ℕ} → k ≡ place i j → {inlen' crosslen' log kept : List ℕ} {at : ℕ} {r : Went}
+      → Left (flowed (still inlen crosslen) (place i j) k (crossed_at slot cycle i j)) inlen' crosslen' log kept at r
+      → Left (cross_step n crosscap (still inlen crosslen) slot cycle i) inlen' crosslen' log kept at r
+  cross_moves h p x = rw (has_crossed h) (rw p at x)
 
-  pub cross-stays : n ≤ j → (log : List ℕ) (at : ℕ) → Left (crossStep n crosscap (still inlen crosslen) slot cycle i) inlen crosslen log log at (record { at = at; moved = false })
-  unfolding crossStep crossedOne
-  cross-stays h log at = rw (← chosen, le-ltb j n h) (left-still inlen crosslen log at)
+  pub cross_stays : n ≤ j → (log : List ℕ) (at : ℕ) → Left (cross_step n crosscap (still inlen crosslen) slot cycle i) inlen crosslen log log at (record { at = at; moved = false })
+  unfolding cross_step crossed_one
+  cross_stays h log at = rw (← chosen, le-ltb j n h) (left_still inlen crosslen log at)
 
-outmoved-after : (t : Bool) (b : Flow) (slot cycle i j : ℕ) → outmovedOne t b slot cycle i j ≡ joined b (outmovedOne t (still b.from b.to) slot cycle i j)
-unfolding outmovedOne flowed still joined
-outmoved-after true b slot cycle i j = refl
-outmoved-after false b slot cycle i j = nothing-more b
+outmoved_after : (t : Bool) (b : Flow) (slot cycle i j : ℕ) → outmoved_one t b slot cycle i j ≡ joined b (outmoved_one t (still b.from b.to) slot cycle i j)
+unfolding outmoved_one flowed still joined
+outmoved_after true b slot cycle i j = refl
+outmoved_after false b slot cycle i j = nothing_more b
 
-outmove-after : (turn outcap : List ℕ) (slot cycle j : ℕ) (b : Flow) → outmoveStep turn outcap b slot cycle j ≡ joined b (outmoveStep turn outcap (still b.from b.to) slot cycle j)
-unfolding outmoveStep outmover still
-outmove-after turn outcap slot cycle j b =
+outmove_after : (turn outcap : List ℕ) (slot cycle j : ℕ) (b : Flow) → outmove_step turn outcap b slot cycle j ≡ joined b (outmove_step turn outcap (still b.from b.to) slot cycle j)
+unfolding outmove_step outmover still
+outmove_after turn outcap slot cycle j b =
     let u = outmover turn b j in
-    outmoved-after (hasRoom outcap b.to j && ltb u (length turn)) b slot cycle (get_or turn u 0) j
+    outmoved_after (has_room outcap b.to j && ltb u (length turn)) b slot cycle (get_or turn u 0) j
 
 -- one output more
 module _ (turn outcap crosslen outlen : List ℕ) (slot cycle j : ℕ) where
-  one-more-output : outmoves turn outcap crosslen outlen slot cycle (j + 1) ≡ outmoveStep turn outcap (outmoves turn outcap crosslen outlen slot cycle j) slot cycle j
-  unfolding outmoves outmoveStep
-  one-more-output = rw add-one
+  one_more_output : outmoves turn outcap crosslen outlen slot cycle (j + 1) ≡ outmove_step turn outcap (outmoves turn outcap crosslen outlen slot cycle j) slot cycle j
+  unfolding outmoves outmove_step
+  one_more_output = rw add-one
 
-  pub output-more : {from to from' to' log kept kept' : List ℕ} {at : ℕ} {r s t : Went}
+  pub output_more : {from to from' to' log kept kept' : List ℕ} {at : ℕ} {r s t : Went}
       → Left (outmoves turn outcap crosslen outlen slot cycle j) from to log kept at r
-      → Left (outmoveStep turn outcap (still from to) slot cycle j) from' to' kept kept' r.at s
+      → Left (outmove_step turn outcap (still from to) slot cycle j) from' to' kept kept' r.at s
       → t ≡ record { at = s.at; moved = r.moved || s.moved }
       → Left (outmoves turn outcap crosslen outlen slot cycle (j + 1)) from' to' log kept' at t
-  output-more x y e =
-      rw one-more-output
-      (left_step (λ b. outmoveStep turn outcap b slot cycle j) (outmove-after turn outcap slot cycle j) x y e)
+  output_more x y e =
+      rw one_more_output
+      (left_step (λ b. outmove_step turn outcap b slot cycle j) (outmove_after turn outcap slot cycle j) x y e)
 
 -- every output
-pub all-outputs : (ports j : ℕ) (turn outcap crosslen outlen : List ℕ) (slot cycle : ℕ) {from to log kept : List ℕ} {at : ℕ} {r : Went} → j ≡ ports
-    → Left (outmoves turn outcap crosslen outlen slot cycle j) from to log kept at r → Left (outputPart ports turn outcap crosslen outlen slot cycle) from to log kept at r
-unfolding outputPart
-all-outputs ports j turn outcap crosslen outlen slot cycle e x = rw e at x
+pub all_outputs : (ports j : ℕ) (turn outcap crosslen outlen : List ℕ) (slot cycle : ℕ) {from to log kept : List ℕ} {at : ℕ} {r : Went} → j ≡ ports
+    → Left (outmoves turn outcap crosslen outlen slot cycle j) from to log kept at r → Left (output_part ports turn outcap crosslen outlen slot cycle) from to log kept at r
+unfolding output_part
+all_outputs ports j turn outcap crosslen outlen slot cycle e x = rw e at x
 
 -- a full output takes nothing
-pub outmove-full : (turn outcap crosslen outlen : List ℕ) (slot cycle j : ℕ) → hasRoom outcap outlen j ≡ false → (log : List ℕ) (at : ℕ)
-    → Left (outmoveStep turn outcap (still crosslen outlen) slot cycle j) crosslen outlen log log at (record { at = at; moved = false })
-unfolding outmoveStep outmovedOne still
-outmove-full turn outcap crosslen outlen slot cycle j full log at = rw full (left-still crosslen outlen log at)
+pub outmove_full : (turn outcap crosslen outlen : List ℕ) (slot cycle j : ℕ) → has_room outcap outlen j ≡ false → (log : List ℕ) (at : ℕ)
+    → Left (outmove_step turn outcap (still crosslen outlen) slot cycle j) crosslen outlen log log at (record { at = at; moved = false })
+unfolding outmove_step outmoved_one still
+outmove_full turn outcap crosslen outlen slot cycle j full log at = rw full (left_still crosslen outlen log at)
 
 -- the first n inputs in turn
 module _ (n : ℕ) (turn : List ℕ) (few : n ≤ length turn) where
-  pub first-length : length (take n turn) ≡ n
-  first-length = length-take-le n turn (omega arith)
+  pub first_length : length (take n turn) ≡ n
+  first_length = length-take-le n turn (omega arith)
 
   -- the first input in turn that has a packet for output j
-  pub outmover-is : (crosslen : List ℕ) (j : ℕ) → outmover (take n turn) (still crosslen []) j ≡ lowest (λ u. waits crosslen (place (get_or turn u 0) j)) n
+  pub outmover_is : (crosslen : List ℕ) (j : ℕ) → outmover (take n turn) (still crosslen []) j ≡ lowest (λ u. waits crosslen (place (get_or turn u 0) j)) n
   unfolding outmover still
-  outmover-is crosslen j =
-      rw first-length
-      (lowest-cong (λ u. waits crosslen (place (get_or (take n turn) u 0) j)) (λ u. waits crosslen (place (get_or turn u 0) j)) n
+  outmover_is crosslen j =
+      rw first_length
+      (lowest_cong (λ u. waits crosslen (place (get_or (take n turn) u 0) j)) (λ u. waits crosslen (place (get_or turn u 0) j)) n
       (λ u h. ap (λ (i : ℕ). waits crosslen (place i j)) (get_or-take n turn u 0 h)))
 
   -- one output
   module _ (outcap crosslen outlen : List ℕ) (slot cycle j u : ℕ) (chosen : u ≡ outmover (take n turn) (still crosslen []) j) where
-    has-outmoved : hasRoom outcap outlen j ≡ true → u < n
-        → outmoveStep (take n turn) outcap (still crosslen outlen) slot cycle j ≡ flowed (still crosslen outlen) (place (get_or turn u 0) j) j (outmovedAt slot cycle (get_or turn u 0) j)
-    unfolding outmoveStep outmovedOne outmover still
-    has-outmoved room h = rw (← chosen, first-length, room, lt-ltb u n h, get_or-take n turn u 0 h)
+    has_outmoved : has_room outcap outlen j ≡ true → u < n
+        → outmove_step (take n turn) outcap (still crosslen outlen) slot cycle j ≡ flowed (still crosslen outlen) (place (get_or turn u 0) j) j (outmoved_at slot cycle (get_or turn u 0) j)
+    unfolding outmove_step outmoved_one outmover still
+    has_outmoved room h = rw (← chosen, first_length, room, lt-ltb u n h, get_or-take n turn u 0 h)
 
-    pub outmove-moves : hasRoom outcap outlen j ≡ true → u < n → {crosslen' outlen' log kept : List ℕ} {at : ℕ} {r : Went}
-        → Left (flowed (still crosslen outlen) (place (get_or turn u 0) j) j (outmovedAt slot cycle (get_or turn u 0) j)) crosslen' outlen' log kept at r
-        → Left (outmoveStep (take n turn) outcap (still crosslen outlen) slot cycle j) crosslen' outlen' log kept at r
-    outmove-moves room h x = rw (has-outmoved room h) x
+    pub outmove_moves : has_room outcap outlen j ≡ true → u < n → {crosslen' outlen' log kept : List ℕ} {at : ℕ} {r : Went}
+        → Left (flowed (still crosslen outlen) (place (get_or turn u 0) j) j (outmoved_at slot cycle (get_or turn u 0) j)) crosslen' outlen' log kept at r
+        → Left (outmove_step (take n turn) outcap (still crosslen outlen) slot cycle j) crosslen' outlen' log kept at r
+    outmove_moves room h x = rw (has_outmoved room h) x
 
-    pub outmove-stays : n ≤ u → (log : List ℕ) (at : ℕ)
-        → Left (outmoveStep (take n turn) outcap (still crosslen outlen) slot cycle j) crosslen outlen log log at (record { at = at; moved = false })
-    unfolding outmoveStep outmovedOne outmover still
-    outmove-stays h log at = rw (← chosen, first-length, le-ltb u n h, and-false) (left-still crosslen outlen log at)
+    pub outmove_stays : n ≤ u → (log : List ℕ) (at : ℕ)
+        → Left (outmove_step (take n turn) outcap (still crosslen outlen) slot cycle j) crosslen outlen log log at (record { at = at; moved = false })
+    unfolding outmove_step outmoved_one outmover still
+    outmove_stays h log at = rw (← chosen, first_length, le-ltb u n h, and-false) (left_still crosslen outlen log at)

@@ -1,11 +1,11 @@
 // The two parts of a cycle of the buffered crossbar, in place on lent queues (document 01, "One slot"). A switch has at most 16 ports: more
 // are not looked at.
 ghost use Rattle.std.specs.Prelude.{◌≡◌, true, false, ◌||◌, [], ℕ, ◌≤◌, ◌<◌, min, length, take, get_or};
-ghost use Rattle.queues.specs.Queues.{place, waits, hasRoom};
+ghost use Rattle.queues.specs.Queues.{place, waits, has_room};
 ghost use Rattle.queues.specs.Flow.{still, flowed};
-ghost use Rattle.queues.specs.Crossbar.{crossing, inputPart, outmover, outputPart};
+ghost use Rattle.queues.specs.Crossbar.{crossing, input_part, outmover, output_part};
 ghost use Rattle.queues.specs.Lent.{Left};
-ghost use Rattle.crossbar.specs.Steps.{crossStep, outmoveStep};
+ghost use Rattle.crossbar.specs.Steps.{cross_step, outmove_step};
 
 use queues::Went;
 
@@ -74,7 +74,7 @@ fn shift(
     log: &mut [u32],
     at: usize,
 ) -> Went
-    requires { hasRoom cap.now to.old m ≡ true }
+    requires { has_room cap.now to.old m ≡ true }
     ensures { Left (flowed (still from.old to.old) (place i j) m (record { kind = kind; slot = slot; cycle = cycle; input = i; output = j })) from.new to.new log.old log.new at result }
 {
     queues::leave(from, place(i, j));
@@ -100,7 +100,7 @@ fn cross(
     at: usize,
 ) -> Went
     requires { n ≤ 16 }
-    ensures { Left (crossStep n crosscap.now (still inlen.old crosslen.old) slot cycle i) inlen.new crosslen.new log.old log.new at result }
+    ensures { Left (cross_step n crosscap.now (still inlen.old crosslen.old) slot cycle i) inlen.new crosslen.new log.old log.new at result }
 {
     let j = crossing(n, i, crosscap, inlen, crosslen);
     if j < n {
@@ -137,7 +137,7 @@ fn inputs(
     at: usize,
 ) -> Went
     requires { (n ≤ length turn.now) × (n ≤ 16) }
-    ensures { Left (inputPart n (take n turn.now) crosscap.now inlen.old crosslen.old slot cycle) inlen.new crosslen.new log.old log.new at result }
+    ensures { Left (input_part n (take n turn.now) crosscap.now inlen.old crosslen.old slot cycle) inlen.new crosslen.new log.old log.new at result }
 {
     let mut done = Went {
         at: at,
@@ -212,7 +212,7 @@ fn outmove(
     none: bool,
 ) -> Went
     requires { (n ≤ length turn.now) × (none ≡ true → (i : ℕ) → waits crosslen.old (place i j) ≡ false) }
-    ensures { Left (outmoveStep (take n turn.now) outcap.now (still crosslen.old outlen.old) slot cycle j) crosslen.new outlen.new log.old log.new at result }
+    ensures { Left (outmove_step (take n turn.now) outcap.now (still crosslen.old outlen.old) slot cycle j) crosslen.new outlen.new log.old log.new at result }
 {
     if none {
         return Went {
@@ -253,7 +253,7 @@ fn outputs(
     at: usize,
 ) -> Went
     requires { (n ≤ length turn.now) × (n ≤ 16) }
-    ensures { Left (outputPart n (take n turn.now) outcap.now crosslen.old outlen.old slot cycle) crosslen.new outlen.new log.old log.new at result }
+    ensures { Left (output_part n (take n turn.now) outcap.now crosslen.old outlen.old slot cycle) crosslen.new outlen.new log.old log.new at result }
 {
     let bits = columns(crosslen);
     let mut done = Went {
@@ -293,7 +293,7 @@ pub fn input_part(
     log: &mut [u32],
     at: usize,
 ) -> Went
-    ensures { Left (inputPart (min ports 16) (take (min ports 16) turn.now) crosscap.now inlen.old crosslen.old slot cycle) inlen.new crosslen.new log.old log.new at result }
+    ensures { Left (input_part (min ports 16) (take (min ports 16) turn.now) crosscap.now inlen.old crosslen.old slot cycle) inlen.new crosslen.new log.old log.new at result }
 {
     inputs(
         ports_of(ports),
@@ -320,7 +320,7 @@ pub fn output_part(
     log: &mut [u32],
     at: usize,
 ) -> Went
-    ensures { Left (outputPart (min ports 16) (take (min ports 16) turn.now) outcap.now crosslen.old outlen.old slot cycle) crosslen.new outlen.new log.old log.new at result }
+    ensures { Left (output_part (min ports 16) (take (min ports 16) turn.now) outcap.now crosslen.old outlen.old slot cycle) crosslen.new outlen.new log.old log.new at result }
 {
     outputs(
         ports_of(ports),

@@ -6,35 +6,35 @@ use native.Mathlib.Omega.{arith}
 use mathlib.Core.Path.{◌≡◌, ◌∙◌}
 use mathlib.Core.List.{List}
 use lib.ListN.{length, get_or}
-use Rattle.base.proofs.Listed.{length-listed, listed_at}
-use Rattle.trace.specs.Reading.{headerOf, reading}
+use Rattle.base.proofs.Listed.{length_listed, listed_at}
+use Rattle.trace.specs.Reading.{header_of, reading}
 use Rattle.queues.specs.Slot.{free}
 use Rattle.slot_laws.proofs.TurnLaws.{Round}
 use Rattle.bound.specs.Switch.{State}
 use Rattle.bound.specs.Rival.{Rival}
-use Rattle.greedy_bound.specs.Rivalry.{configOf, limitOf}
-use Rattle.greedy_bound.specs.Orders.{slots_by, traceBy, downward}
-use Rattle.greedy_bound.proofs.NoRivalBeats.{no-rival-beats-any-order}
+use Rattle.greedy_bound.specs.Rivalry.{config_of, limit_of}
+use Rattle.greedy_bound.specs.Orders.{slots_by, trace_by, downward}
+use Rattle.greedy_bound.proofs.NoRivalBeats.{no_rival_beats_any_order}
 
 module _ (ports : ℕ) where
-  downward-length : length (downward ports) ≡ ports
+  downward_length : length (downward ports) ≡ ports
   unfolding downward
-  downward-length = simp length-listed (omega arith)
+  downward_length = simp length_listed (omega arith)
 
-  downward-at : (u : ℕ) → u < ports → get_or (downward ports) u 0 ≡ ports - 1 - u
+  downward_at : (u : ℕ) → u < ports → get_or (downward ports) u 0 ≡ ports - 1 - u
   unfolding downward
-  downward-at u h = simp listed_at (omega arith)
+  downward_at u h = simp listed_at (omega arith)
 
-  pub downward-round : Round ports (downward ports)
-  downward-round =
-      let long = downward-length in
+  pub downward_round : Round ports (downward ports)
+  downward_round =
+      let long = downward_length in
       record {
-        below = λ u h. omega (arith, downward-at u (omega arith));
-        visits = λ i h. (ports - 1 - i, omega arith, downward-at (ports - 1 - i) (omega arith) ∙ omega arith);
-        apart = λ u w l h e. omega (arith, downward-at u (omega arith), downward-at w (omega arith));
+        below = λ u h. omega (arith, downward_at u (omega arith));
+        visits = λ i h. (ports - 1 - i, omega arith, downward_at (ports - 1 - i) (omega arith) ∙ omega arith);
+        apart = λ u w l h e. omega (arith, downward_at u (omega arith), downward_at w (omega arith));
       }
 
-pub no-rival-beats-highest-first : (s : List ℕ) → reading s ≡ 0 → (headerOf s).model ≡ 1 → (e : State) (t : ℕ) → Rival (configOf s) (traceBy (λ t. free) s) t e
-    → e.sent ≤ limitOf (slots_by (λ t k. downward (headerOf s).ports) (λ t. free) s t).switch
-no-rival-beats-highest-first s r m e =
-    no-rival-beats-any-order s r m e (λ t k. downward (headerOf s).ports) (λ t k. downward-round (headerOf s).ports) (λ t. free)
+pub no_rival_beats_highest_first : (s : List ℕ) → reading s ≡ 0 → (header_of s).model ≡ 1 → (e : State) (t : ℕ) → Rival (config_of s) (trace_by (λ t. free) s) t e
+    → e.sent ≤ limit_of (slots_by (λ t k. downward (header_of s).ports) (λ t. free) s t).switch
+no_rival_beats_highest_first s r m e =
+    no_rival_beats_any_order s r m e (λ t k. downward (header_of s).ports) (λ t k. downward_round (header_of s).ports) (λ t. free)

@@ -5,10 +5,10 @@ use Rattle.switch.specs.declared.Switch.{Switch}
 use Rattle.run.specs.declared.Counts.{Counts}
 use Rattle.greedy_bound.specs.declared.Limits.{Limits}
 use Rattle.greedy_bound.specs.declared.Limited.{Limited}
-use Rattle.greedy_bound.specs.Answer.{limitAnswer, limitsOf}
+use Rattle.greedy_bound.specs.Answer.{limit_answer, limits_of}
 
-pub limit-unique : (s : Switch) (a b : Limited) → a ≡ limitAnswer s → b ≡ limitAnswer s → a ≡ b
-limit-unique s a b x y = x ∙ sym y
+pub limit_unique : (s : Switch) (a b : Limited) → a ≡ limit_answer s → b ≡ limit_answer s → a ≡ b
+limit_unique s a b x y = x ∙ sym y
 
-pub of-run-unique : (c : Counts) (a b : Limits) → a ≡ limitsOf c → b ≡ limitsOf c → a ≡ b
-of-run-unique c a b x y = x ∙ sym y
+pub of_run_unique : (c : Counts) (a b : Limits) → a ≡ limits_of c → b ≡ limits_of c → a ≡ b
+of_run_unique c a b x y = x ∙ sym y

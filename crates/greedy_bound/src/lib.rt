@@ -1,6 +1,6 @@
 // What greedy matching keeps every rival to: three times what it has sent, and twice what stands in its output queues. That no rival beats it is proved in proofs/.
 ghost use Rattle.std.specs.Prelude.{◌≡◌, ◌-◌};
-ghost use Rattle.greedy_bound.specs.Answer.{limitRefusal, limitAnswer, limitsOf};
+ghost use Rattle.greedy_bound.specs.Answer.{limit_refusal, limit_answer, limits_of};
 
 use run::Counts;
 use switch::Switch;
@@ -21,7 +21,7 @@ pub struct Limits {
 
 // 13, 2.
 fn refusal(s: Switch) -> u32
-    ensures { result ≡ limitRefusal s }
+    ensures { result ≡ limit_refusal s }
 {
     let value = switch::refusal(s);
     let model = base::unless(s.model == 1, 2);
@@ -30,7 +30,7 @@ fn refusal(s: Switch) -> u32
 
 // The limit of a switch of model 1. What has been moved to output queues and not been sent stands in them.
 pub fn limit(s: Switch) -> Limited
-    ensures { result ≡ limitAnswer s }
+    ensures { result ≡ limit_answer s }
 {
     let n = refusal(s);
     if n != 0 {
@@ -51,7 +51,7 @@ fn less(a: u32, b: u32) -> u32
 
 // The limits of a run of model 1, by its counts: an emptied switch has sent all that was not dropped.
 pub fn of_run(counts: Counts) -> Limits
-    ensures { result ≡ limitsOf counts }
+    ensures { result ≡ limits_of counts }
 {
     let kept = less(counts.arrived, counts.dropped);
     Limits {

@@ -1,16 +1,16 @@
 -- A switch as 1,066 words, for callers in other languages: model, order, ports, speedup, slot number, arrived, dropped, crossed, outmoved, sent; then 256 input, 16
 -- output and 256 crosspoint capacities; then 256 input, 16 output and 256 crosspoint lengths; queue (i, j) at i × 16 + j.
 use Rattle.std.specs.Prelude.{ℕ, ◌+◌, List, [], ◌∷◌, ◌++◌, get_or}
-use Rattle.base.specs.Below.{listBelow}
+use Rattle.base.specs.Below.{list_below}
 use Rattle.queues.specs.declared.Queues.{Queues}
 use Rattle.switch.specs.declared.Switch.{Switch}
 
 -- n words from a place on
 unfoldable pub words : List ℕ → ℕ → ℕ → List ℕ
-words ws from n = listBelow (λ k. get_or ws (from + k) 0) n
+words ws from n = list_below (λ k. get_or ws (from + k) 0) n
 
-unfoldable pub queuesOf : List ℕ → Queues
-queuesOf ws =
+unfoldable pub queues_of : List ℕ → Queues
+queues_of ws =
     record {
       incap = words ws 10 256;
       outcap = words ws 266 16;
@@ -21,8 +21,8 @@ queuesOf ws =
     }
 
 -- the switch that the words are an image of
-unfoldable pub switchOf : List ℕ → Switch
-switchOf ws =
+unfoldable pub switch_of : List ℕ → Switch
+switch_of ws =
     record {
       model = get_or ws 0 0;
       order = get_or ws 1 0;
@@ -34,19 +34,19 @@ switchOf ws =
       crossed = get_or ws 7 0;
       outmoved = get_or ws 8 0;
       sent = get_or ws 9 0;
-      queues = queuesOf ws;
+      queues = queues_of ws;
     }
 
 -- the first ten words, and the queues
-unfoldable pub numbersOf : Switch → List ℕ
-numbersOf s =
+unfoldable pub numbers_of : Switch → List ℕ
+numbers_of s =
     s.model
     ∷ (s.order
     ∷ (s.ports ∷ (s.speedup ∷ (s.slot ∷ (s.arrived ∷ (s.dropped ∷ (s.crossed ∷ (s.outmoved ∷ (s.sent ∷ [])))))))))
 
-unfoldable pub queueWords : Queues → List ℕ
-queueWords q = q.incap ++ (q.outcap ++ (q.crosscap ++ (q.inlen ++ (q.outlen ++ q.crosslen))))
+unfoldable pub queue_words : Queues → List ℕ
+queue_words q = q.incap ++ (q.outcap ++ (q.crosscap ++ (q.inlen ++ (q.outlen ++ q.crosslen))))
 
 -- the image of a switch
 unfoldable pub image_of : Switch → List ℕ
-image_of s = numbersOf s ++ queueWords s.queues
+image_of s = numbers_of s ++ queue_words s.queues

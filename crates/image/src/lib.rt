@@ -1,7 +1,7 @@
 // A switch as 1,066 words, for callers in other languages.
 ghost use Rattle.std.specs.Prelude.{◌≡◌, ◌≤◌, ◌+◌, ◌++◌, length, set};
 ghost use Rattle.std.proofs.lemmas.List.Edits.{sets};
-ghost use Rattle.image.specs.Image.{words, queuesOf, switchOf, queueWords, image_of};
+ghost use Rattle.image.specs.Image.{words, queues_of, switch_of, queue_words, image_of};
 
 use queues::Queues;
 use switch::Switch;
@@ -34,7 +34,7 @@ fn outputs(state: &[u32], from: usize) -> [u32; 16]
 
 // The capacities and then the lengths, each of the input queues, the output queues and the crosspoints.
 fn queues_of(state: &[u32]) -> Queues
-    ensures { result ≡ queuesOf state.now }
+    ensures { result ≡ queues_of state.now }
 {
     Queues {
         incap: pairs(state, 10),
@@ -48,7 +48,7 @@ fn queues_of(state: &[u32]) -> Queues
 
 // The switch that the words are an image of; words that are missing are 0.
 pub fn switch_of(state: &[u32]) -> Switch
-    ensures { result ≡ switchOf state.now }
+    ensures { result ≡ switch_of state.now }
 {
     Switch {
         model: queues::number_at(state, 0),
@@ -103,7 +103,7 @@ fn put_three(
 }
 
 fn put_queues(state: &mut [u32], q: Queues)
-    ensures { state.new ≡ sets state.old 10 (queueWords q) }
+    ensures { state.new ≡ sets state.old 10 (queue_words q) }
 {
     let incap = q.incap;
     let outcap = q.outcap;

@@ -8,44 +8,44 @@ use native.Mathlib.Omega.{arith}
 use lib.Dec.{leb}
 use borrow.Author.Tests.{leb-true}
 use Rattle.base.specs.Refusal.{unless, ◌⨟◌}
-use Rattle.base.proofs.Refusal.{unless-zero, chain-zero}
+use Rattle.base.proofs.Refusal.{unless_zero, chain_zero}
 use Rattle.base.proofs.Below.{both_true}
 use Rattle.layout.specs.declared.Header.{Header}
 use Rattle.layout.specs.declared.Places.{Places}
 use Rattle.layout.specs.declared.LaidOut.TheVariants.{At, Refused}
-use Rattle.layout.specs.Header.{modelAllowed, orderAllowed, sideAllowed, countAllowed, headerRefusal, hasCrosspoints, capacityCount, slotCountsAt, arrivalsAt, total_of, places_of, laidOutOf, laidOut}
+use Rattle.layout.specs.Header.{model_allowed, order_allowed, side_allowed, count_allowed, header_refusal, has_crosspoints, capacity_count, slot_counts_at, arrivals_at, total_of, places_of, laid_out_of, laid_out}
 
-pub side-small : (n : ℕ) → sideAllowed n ≡ true → (1 ≤ n) × (n ≤ 16)
-unfolding sideAllowed
-side-small n h = let both = both_true (leb 1 n) (leb n 16) h in (leb-true 1 n both.0, leb-true n 16 both.1)
+pub side_small : (n : ℕ) → side_allowed n ≡ true → (1 ≤ n) × (n ≤ 16)
+unfolding side_allowed
+side_small n h = let both = both_true (leb 1 n) (leb n 16) h in (leb-true 1 n both.0, leb-true n 16 both.1)
 
 pub record Allowed (h : Header) : Type 0 where
-  pub model : modelAllowed h.model ≡ true
+  pub model : model_allowed h.model ≡ true
   pub order : h.order ≤ 2
   pub ports : (1 ≤ h.ports) × (h.ports ≤ 16)
   pub speedup : (1 ≤ h.speedup) × (h.speedup ≤ 16)
   pub slots : h.slots ≤ 4096
   pub arrivals : h.arrivals ≤ 4096
 
-pub allowed : (h : Header) → headerRefusal h ≡ 0 → Allowed h
-unfolding headerRefusal orderAllowed countAllowed
+pub allowed : (h : Header) → header_refusal h ≡ 0 → Allowed h
+unfolding header_refusal order_allowed count_allowed
 allowed h e =
-    let m = chain-zero _ _ e in
-    let o = chain-zero _ _ m.1 in
-    let n = chain-zero _ _ o.1 in
-    let s = chain-zero _ _ n.1 in
-    let t = chain-zero _ _ s.1 in
+    let m = chain_zero _ _ e in
+    let o = chain_zero _ _ m.1 in
+    let n = chain_zero _ _ o.1 in
+    let s = chain_zero _ _ n.1 in
+    let t = chain_zero _ _ s.1 in
     record {
-      model = unless-zero _ 1 m.0;
-      order = leb-true _ _ (unless-zero _ 2 o.0);
-      ports = side-small _ (unless-zero _ 3 n.0);
-      speedup = side-small _ (unless-zero _ 4 s.0);
-      slots = leb-true _ _ (unless-zero _ 5 t.0);
-      arrivals = leb-true _ _ (unless-zero _ 6 t.1);
+      model = unless_zero _ 1 m.0;
+      order = leb-true _ _ (unless_zero _ 2 o.0);
+      ports = side_small _ (unless_zero _ 3 n.0);
+      speedup = side_small _ (unless_zero _ 4 s.0);
+      slots = leb-true _ _ (unless_zero _ 5 t.0);
+      arrivals = leb-true _ _ (unless_zero _ 6 t.1);
     }
 
 -- 16 ports have 256 pairs
-pub pairs : (h : Header) → headerRefusal h ≡ 0 → (h.ports ≤ 16) × (h.ports * h.ports ≤ 256)
+pub pairs : (h : Header) → header_refusal h ≡ 0 → (h.ports ≤ 16) × (h.ports * h.ports ≤ 256)
 pairs h e = let p = (allowed h e).ports in (p.1, mul-le-mul p.1 p.1)
 
 cond_small : (b : Bool) {n m : ℕ} → n ≤ m → cond b n 0 ≤ m
@@ -53,33 +53,33 @@ cond_small true h = h
 cond_small false h = zero-le
 
 -- a refusal of the header's numbers is all that laying it out answers
-pub laid-refused : (n : ℕ) (h : Header) → (n ≡ 0 → ⊥) → laidOutOf n h ≡ Refused n
-unfolding laidOutOf
-laid-refused zero h e = absurd (e refl)
-laid-refused (suc n) h e = refl
+pub laid_refused : (n : ℕ) (h : Header) → (n ≡ 0 → ⊥) → laid_out_of n h ≡ Refused n
+unfolding laid_out_of
+laid_refused zero h e = absurd (e refl)
+laid_refused (suc n) h e = refl
 
 -- no file is longer than 17,480 bytes, and the tables' places lie within it
-pub places-small : (h : Header) → headerRefusal h ≡ 0 → (slotCountsAt h ≤ 1096) × (arrivalsAt h ≤ 9288) × (total_of h ≤ 17480)
-unfolding total_of arrivalsAt slotCountsAt capacityCount
-places-small h e =
+pub places_small : (h : Header) → header_refusal h ≡ 0 → (slot_counts_at h ≤ 1096) × (arrivals_at h ≤ 9288) × (total_of h ≤ 17480)
+unfolding total_of arrivals_at slot_counts_at capacity_count
+places_small h e =
     let a = allowed h e in
     let n = pairs h e in
-    let x : cond (hasCrosspoints h.model) (h.ports * h.ports) 0 ≤ 256 = cond_small (hasCrosspoints h.model) n.1 in
+    let x : cond (has_crosspoints h.model) (h.ports * h.ports) 0 ≤ 256 = cond_small (has_crosspoints h.model) n.1 in
     omega arith
 
 -- what laying a header out says of it
-pub laid-at : (h : Header) (p : Places) → laidOut h ≡ At p → (headerRefusal h ≡ 0) × (p ≡ places_of h)
-unfolding laidOut
-laid-at h p e = go (headerRefusal h) e
+pub laid_at : (h : Header) (p : Places) → laid_out h ≡ At p → (header_refusal h ≡ 0) × (p ≡ places_of h)
+unfolding laid_out
+laid_at h p e = go (header_refusal h) e
   where
-    go : (n : ℕ) → laidOutOf n h ≡ At p → (n ≡ 0) × (p ≡ places_of h)
-    go zero e = unfold laidOutOf in (refl, cc)
-    go (suc n) e = let z : Refused (suc n) ≡ At p = unfold laidOutOf in e in let w : ◌≡◌ {A = ℕ} 0 1 = cc in absurd (omega arith)
+    go : (n : ℕ) → laid_out_of n h ≡ At p → (n ≡ 0) × (p ≡ places_of h)
+    go zero e = unfold laid_out_of in (refl, cc)
+    go (suc n) e = let z : Refused (suc n) ≡ At p = unfold laid_out_of in e in let w : ◌≡◌ {A = ℕ} 0 1 = cc in absurd (omega arith)
 
-pub laid_by : (h : Header) (n : ℕ) → laidOut h ≡ Refused n → (headerRefusal h ≡ n) × (n ≡ 0 → ⊥)
-unfolding laidOut
-laid_by h n e = go (headerRefusal h) e
+pub laid_by : (h : Header) (n : ℕ) → laid_out h ≡ Refused n → (header_refusal h ≡ n) × (n ≡ 0 → ⊥)
+unfolding laid_out
+laid_by h n e = go (header_refusal h) e
   where
-    go : (m : ℕ) → laidOutOf m h ≡ Refused n → (m ≡ n) × (n ≡ 0 → ⊥)
-    go zero e = let z : At (places_of h) ≡ Refused n = unfold laidOutOf in e in let w : ◌≡◌ {A = ℕ} 0 1 = cc in absurd (omega arith)
-    go (suc m) e = let z : Refused (suc m) ≡ Refused n = unfold laidOutOf in e in let w : suc m ≡ n = cc in (w, omega arith)
+    go : (m : ℕ) → laid_out_of m h ≡ Refused n → (m ≡ n) × (n ≡ 0 → ⊥)
+    go zero e = let z : At (places_of h) ≡ Refused n = unfold laid_out_of in e in let w : ◌≡◌ {A = ℕ} 0 1 = cc in absurd (omega arith)
+    go (suc m) e = let z : Refused (suc m) ≡ Refused n = unfold laid_out_of in e in let w : suc m ≡ n = cc in (w, omega arith)

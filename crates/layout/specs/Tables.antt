@@ -2,28 +2,28 @@
 -- of the lent tables. `cap k` is capacity k, `count t` the arrivals of slot t, and `port b` byte b of the arrivals' table: of arrival a
 -- the input port is byte 2 × a, and the output port the one after it.
 use Rattle.std.specs.Prelude.{ℕ, ◌+◌, ◌*◌, Bool, ◌&&◌, leb, ltb, eqb}
-use Rattle.base.specs.Below.{all_below, sumBelow}
+use Rattle.base.specs.Below.{all_below, sum_below}
 use Rattle.base.specs.Refusal.{unless, ◌⨟◌}
 use Rattle.layout.specs.declared.Header.{Header}
-use Rattle.layout.specs.Header.{capacityCount}
+use Rattle.layout.specs.Header.{capacity_count}
 
 -- 1 to 1,024
-unfoldable pub capacityAllowed : ℕ → Bool
-capacityAllowed c = leb 1 c && leb c 1024
+unfoldable pub capacity_allowed : ℕ → Bool
+capacity_allowed c = leb 1 c && leb c 1024
 
-unfoldable pub capacitiesAllowed : Header → (ℕ → ℕ) → Bool
-capacitiesAllowed h cap = all_below (λ k. capacityAllowed (cap k)) (capacityCount h)
+unfoldable pub capacities_allowed : Header → (ℕ → ℕ) → Bool
+capacities_allowed h cap = all_below (λ k. capacity_allowed (cap k)) (capacity_count h)
 
 -- the slot counts add up to the arrivals
-unfoldable pub countsAddUp : Header → (ℕ → ℕ) → Bool
-countsAddUp h count = eqb (sumBelow count h.slots) h.arrivals
+unfoldable pub counts_add_up : Header → (ℕ → ℕ) → Bool
+counts_add_up h count = eqb (sum_below count h.slots) h.arrivals
 
 -- no arrival's port is N or more
-unfoldable pub portsBelow : Header → (ℕ → ℕ) → Bool
-portsBelow h port = all_below (λ b. ltb (port b) h.ports) (2 * h.arrivals)
+unfoldable pub ports_below : Header → (ℕ → ℕ) → Bool
+ports_below h port = all_below (λ b. ltb (port b) h.ports) (2 * h.arrivals)
 
-unfoldable pub tablesRefusal : Header → (ℕ → ℕ) → (ℕ → ℕ) → (ℕ → ℕ) → ℕ
-tablesRefusal h cap count port =
-    unless (capacitiesAllowed h cap) 9
-    ⨟ unless (countsAddUp h count) 10
-    ⨟ unless (portsBelow h port) 11
+unfoldable pub tables_refusal : Header → (ℕ → ℕ) → (ℕ → ℕ) → (ℕ → ℕ) → ℕ
+tables_refusal h cap count port =
+    unless (capacities_allowed h cap) 9
+    ⨟ unless (counts_add_up h count) 10
+    ⨟ unless (ports_below h port) 11

@@ -1,7 +1,7 @@
 // The header of a trace file (document 01, "The trace file"): what its numbers may be, and the places that they give the tables. Reader and writer share it.
 ghost use Rattle.std.specs.Prelude.{◌≡◌, ◌≤◌};
-ghost use Rattle.layout.specs.Header.{modelAllowed, sideAllowed, headerRefusal, capacityCount, places_of, laidOut};
-ghost use Rattle.layout.specs.Tables.{capacityAllowed};
+ghost use Rattle.layout.specs.Header.{model_allowed, side_allowed, header_refusal, capacity_count, places_of, laid_out};
+ghost use Rattle.layout.specs.Tables.{capacity_allowed};
 
 // The header's first six words.
 #[derive(Drop)]
@@ -33,27 +33,27 @@ pub enum LaidOut {
 
 // Whether a model is allowed: 1 CIOQ, 2 buffered crossbar.
 pub fn model_allowed(m: u32) -> bool
-    ensures { result ≡ modelAllowed m }
+    ensures { result ≡ model_allowed m }
 {
     m == 1 || m == 2
 }
 
 // Whether a number of ports, or a speedup, is allowed: 1 to 16.
 pub fn side_allowed(n: u32) -> bool
-    ensures { result ≡ sideAllowed n }
+    ensures { result ≡ side_allowed n }
 {
     base::both(1 <= n, n <= 16)
 }
 
 // Whether a capacity is allowed: 1 to 1,024.
 pub fn capacity_allowed(c: u32) -> bool
-    ensures { result ≡ capacityAllowed c }
+    ensures { result ≡ capacity_allowed c }
 {
     base::both(1 <= c, c <= 1024)
 }
 
 fn header_refusal(h: Header) -> u32
-    ensures { result ≡ headerRefusal h }
+    ensures { result ≡ header_refusal h }
 {
     let model = base::unless(model_allowed(h.model), 2);
     let order = base::unless(h.order <= 2, 3);
@@ -71,8 +71,8 @@ fn header_refusal(h: Header) -> u32
 }
 
 fn capacity_count(h: Header) -> usize
-    requires { headerRefusal h ≡ 0 }
-    ensures { (result ≡ capacityCount h) × (result ≤ 528) }
+    requires { header_refusal h ≡ 0 }
+    ensures { (result ≡ capacity_count h) × (result ≤ 528) }
 {
     let n = h.ports as usize;
     if h.model == 2 {
@@ -82,7 +82,7 @@ fn capacity_count(h: Header) -> usize
 }
 
 fn places_of(h: Header) -> Places
-    requires { headerRefusal h ≡ 0 }
+    requires { header_refusal h ≡ 0 }
     ensures { result ≡ places_of h }
 {
     let capacities = capacity_count(h);
@@ -97,7 +97,7 @@ fn places_of(h: Header) -> Places
 }
 
 pub fn lay_out(h: Header) -> LaidOut
-    ensures { result ≡ laidOut h }
+    ensures { result ≡ laid_out h }
 {
     let n = header_refusal(h);
     if n != 0 {

@@ -1,10 +1,10 @@
 // Loss per thousand (document 01, "Counts and draining").
 ghost use Rattle.std.specs.Prelude.{◌≡◌};
-ghost use Rattle.loss.specs.Loss.{perThousand};
+ghost use Rattle.loss.specs.Loss.{per_thousand};
 
 // 1,000 × dropped / arrived rounded down, and 0 where nothing arrived.
 pub fn per_thousand(dropped: u32, arrived: u32) -> u64
-    ensures { result ≡ perThousand dropped arrived }
+    ensures { result ≡ per_thousand dropped arrived }
 {
     if arrived == 0 {
         return 0;

@@ -8,30 +8,30 @@ use mathlib.Core.List.{List}
 use lib.ListN.{length, get_or, set}
 use lib.Seq.{set_out, set-get_or}
 use borrow.Author.Tests.{lt-ltb, le-ltb}
-use Rattle.queues.specs.Queues.{hasRoom, more, fewer}
+use Rattle.queues.specs.Queues.{has_room, more, fewer}
 
-pub fewer-past : (l : List ℕ) (k : ℕ) → length l ≤ k → l ≡ fewer l k
+pub fewer_past : (l : List ℕ) (k : ℕ) → length l ≤ k → l ≡ fewer l k
 unfolding fewer
-fewer-past l k h = sym (set_out l k _ h)
+fewer_past l k h = sym (set_out l k _ h)
 
-pub fewer-empty : (l : List ℕ) (k : ℕ) → get_or l k 0 ≤ 0 → l ≡ fewer l k
+pub fewer_empty : (l : List ℕ) (k : ℕ) → get_or l k 0 ≤ 0 → l ≡ fewer l k
 unfolding fewer
-fewer-empty l k h =
+fewer_empty l k h =
     let e : get_or l k 0 ≡ get_or l k 0 - 1 = omega arith in
     sym (set-get_or l k 0) ∙ ap (set l k) e
 
-same-either : (b : Bool) (l m : List ℕ) → l ≡ m → l ≡ cond b m l
-same-either true l m e = e
-same-either false l m e = refl
+same_either : (b : Bool) (l m : List ℕ) → l ≡ m → l ≡ cond b m l
+same_either true l m e = e
+same_either false l m e = refl
 
-pub joins-past : (cap l : List ℕ) (k : ℕ) → length l ≤ k → l ≡ cond (hasRoom cap l k) (more l k) l
+pub joins_past : (cap l : List ℕ) (k : ℕ) → length l ≤ k → l ≡ cond (has_room cap l k) (more l k) l
 unfolding more
-joins-past cap l k h = same-either (hasRoom cap l k) l (more l k) (sym (set_out l k _ h))
+joins_past cap l k h = same_either (has_room cap l k) l (more l k) (sym (set_out l k _ h))
 
-pub joins-full : (cap l : List ℕ) (k : ℕ) → get_or cap k 0 ≤ get_or l k 0 → l ≡ cond (hasRoom cap l k) (more l k) l
-unfolding hasRoom
-joins-full cap l k h = rw (le-ltb (get_or l k 0) (get_or cap k 0) h)
+pub joins_full : (cap l : List ℕ) (k : ℕ) → get_or cap k 0 ≤ get_or l k 0 → l ≡ cond (has_room cap l k) (more l k) l
+unfolding has_room
+joins_full cap l k h = rw (le-ltb (get_or l k 0) (get_or cap k 0) h)
 
-pub joins-room : (cap l : List ℕ) (k : ℕ) → get_or l k 0 < get_or cap k 0 → more l k ≡ cond (hasRoom cap l k) (more l k) l
-unfolding hasRoom
-joins-room cap l k h = rw (lt-ltb (get_or l k 0) (get_or cap k 0) h)
+pub joins_room : (cap l : List ℕ) (k : ℕ) → get_or l k 0 < get_or cap k 0 → more l k ≡ cond (has_room cap l k) (more l k) l
+unfolding has_room
+joins_room cap l k h = rw (lt-ltb (get_or l k 0) (get_or cap k 0) h)

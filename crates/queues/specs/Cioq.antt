@@ -2,13 +2,13 @@
 -- order in which they are visited; `inlen` and `outlen` are the queues at the start of the cycle.
 use Rattle.std.specs.Prelude.{ℕ, zero, suc, Bool, true, false, not, ◌&&◌, ◌||◌, List, [], ◌∷◌, length, get_or, eqb, ltb}
 use Rattle.base.specs.Below.{lowest}
-use Rattle.queues.specs.Queues.{place, waits, hasRoom}
-use Rattle.queues.specs.Events.{crossedAt}
+use Rattle.queues.specs.Queues.{place, waits, has_room}
+use Rattle.queues.specs.Events.{crossed_at}
 use Rattle.queues.specs.Flow.{Flow, still, flowed}
 
 -- (i, j) is eligible: at the start of the cycle input queue (i, j) is not empty and output queue j is not full
 unfoldable pub eligible : List ℕ → List ℕ → List ℕ → ℕ → ℕ → Bool
-eligible outcap inlen outlen i j = waits inlen (place i j) && hasRoom outcap outlen j
+eligible outcap inlen outlen i j = waits inlen (place i j) && has_room outcap outlen j
 
 -- whether output j is among those taken
 unfoldable pub is_taken : List ℕ → ℕ → Bool
@@ -25,7 +25,7 @@ pub record Visits : Type 0 where
   pub flow : Flow
 
 unfoldable pub visited : Bool → Visits → ℕ → ℕ → ℕ → ℕ → Visits
-visited true b slot cycle i j = record { taken = j ∷ b.taken; flow = flowed b.flow (place i j) j (crossedAt slot cycle i j) }
+visited true b slot cycle i j = record { taken = j ∷ b.taken; flow = flowed b.flow (place i j) j (crossed_at slot cycle i j) }
 visited false b slot cycle i j = b
 
 -- the first u inputs in turn

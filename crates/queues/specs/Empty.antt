@@ -4,5 +4,5 @@ use Rattle.std.specs.Prelude.{ℕ, Bool, ◌&&◌, List, length, get_or, eqb, lt
 use Rattle.base.specs.Below.{all_below}
 use Rattle.queues.specs.Queues.{place}
 
-unfoldable pub rowEmpty : List ℕ → ℕ → Bool
-rowEmpty l i = eqb (length l) 256 && (ltb i 16 && all_below (λ j. eqb (get_or l (place i j) 0) 0) 16)
+unfoldable pub row_empty : List ℕ → ℕ → Bool
+row_empty l i = eqb (length l) 256 && (ltb i 16 && all_below (λ j. eqb (get_or l (place i j) 0) 0) 16)

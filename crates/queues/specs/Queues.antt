@@ -11,8 +11,8 @@ unfoldable pub waits : List ℕ → ℕ → Bool
 waits l k = ltb 0 (get_or l k 0)
 
 -- the queue at place k is not full
-unfoldable pub hasRoom : List ℕ → List ℕ → ℕ → Bool
-hasRoom cap l k = ltb (get_or l k 0) (get_or cap k 0)
+unfoldable pub has_room : List ℕ → List ℕ → ℕ → Bool
+has_room cap l k = ltb (get_or l k 0) (get_or cap k 0)
 
 -- one packet more in the queue at place k, and one fewer
 unfoldable pub more : List ℕ → ℕ → List ℕ

@@ -10,17 +10,17 @@ use Rattle.trace.specs.declared.Standing.{Standing}
 use Rattle.trace.specs.Slots.{standing}
 use Rattle.reader.specs.declared.Reader.{Reader}
 use Rattle.reader.specs.declared.Handed.{Handed}
-use Rattle.reader.specs.Requests.{slotAfter, Answered}
+use Rattle.reader.specs.Requests.{slot_after, Answered}
 
-pub slot-after-one : (s : List ℕ) (t m n : ℕ) → m ≡ slotAfter s t → n ≡ slotAfter s t → m ≡ n
-slot-after-one s t m n = determined
+pub slot_after_one : (s : List ℕ) (t m n : ℕ) → m ≡ slot_after s t → n ≡ slot_after s t → m ≡ n
+slot_after_one s t m n = determined
 
 -- a reader is its trace and its slot
-reader-one : (s : Bor (List ℕ)) (t : ℕ) (q r : Reader) → (q.trace ≡ s) × (q.slot ≡ t) → (r.trace ≡ s) × (r.slot ≡ t) → q ≡ r
-reader-one s t q r x y = λ i. record { trace = determined x.0 y.0 i; slot = determined x.1 y.1 i }
+reader_one : (s : Bor (List ℕ)) (t : ℕ) (q r : Reader) → (q.trace ≡ s) × (q.slot ≡ t) → (r.trace ≡ s) × (r.slot ≡ t) → q ≡ r
+reader_one s t q r x y = λ i. record { trace = determined x.0 y.0 i; slot = determined x.1 y.1 i }
 
-pub new-one : (s : Bor (List ℕ)) (q r : Reader) → (q.trace ≡ s) × (q.slot ≡ 0) → (r.trace ≡ s) × (r.slot ≡ 0) → q ≡ r
-new-one s = reader-one s 0
+pub new_one : (s : Bor (List ℕ)) (q r : Reader) → (q.trace ≡ s) × (q.slot ≡ 0) → (r.trace ≡ s) × (r.slot ≡ 0) → q ≡ r
+new_one s = reader_one s 0
 
 -- two answers with the same trace, the same bytes of arrivals, the same standing and the same slot
 pub record Same (h j : Handed) : Type 0 where
@@ -38,8 +38,8 @@ next_one r h j x y =
       slot = determined x.slot y.slot;
     }
 
-pub onward-one : (h : Handed) (q r : Reader) → (q.trace ≡ h.trace) × (q.slot ≡ h.slot) → (r.trace ≡ h.trace) × (r.slot ≡ h.slot) → q ≡ r
-onward-one h = reader-one h.trace h.slot
+pub onward_one : (h : Handed) (q r : Reader) → (q.trace ≡ h.trace) × (q.slot ≡ h.slot) → (r.trace ≡ h.trace) × (r.slot ≡ h.slot) → q ≡ r
+onward_one h = reader_one h.trace h.slot
 
-pub second-one : (s : List ℕ) (x y : Standing) → x ≡ standing s (slotAfter s 0) → y ≡ standing s (slotAfter s 0) → x ≡ y
-second-one s x y = determined
+pub second_one : (s : List ℕ) (x y : Standing) → x ≡ standing s (slot_after s 0) → y ≡ standing s (slot_after s 0) → x ≡ y
+second_one s x y = determined

@@ -3,7 +3,7 @@
 // the work is done by covered functions on the trace and the slot.
 ghost use Rattle.std.specs.Prelude.{◌≡◌};
 ghost use Rattle.trace.specs.Slots.{standing};
-ghost use Rattle.reader.specs.Requests.{slotAfter, Answered};
+ghost use Rattle.reader.specs.Requests.{slot_after, Answered};
 
 use trace::Standing;
 
@@ -25,7 +25,7 @@ pub struct Handed<'a> {
 
 // The slot to go on from after a request at a slot: the next one where arrivals stand there, else the same.
 pub fn slot_after(trace: &[u8], slot: usize) -> usize
-    ensures { result ≡ slotAfter trace.now slot }
+    ensures { result ≡ slot_after trace.now slot }
 {
     match trace::stands(trace, slot) {
         Standing::Arrivals => slot + 1,
@@ -70,7 +70,7 @@ pub fn onward<'a>(h: Handed<'a>) -> Reader<'a>
 
 // What the second request to a new reader finds. Its contract says nothing of a reader, so whoever calls it needs no walk by hand.
 pub fn second(trace: &[u8]) -> Standing
-    ensures { result ≡ standing trace.now (slotAfter trace.now 0) }
+    ensures { result ≡ standing trace.now (slot_after trace.now 0) }
 {
     next(onward(next(new(trace)))).standing
 }

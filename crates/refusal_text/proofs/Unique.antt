@@ -9,8 +9,8 @@ use Rattle.refusal_text.proofs.refusal_line.Reads as refusal-line
 use Rattle.refusal_text.proofs.told.Kinds as told-kinds
 use Rattle.refusal_text.proofs.told.Reads as told
 
-pub refusal-line-one : OneShown 1 refusal-line-kinds.ps refusal-line-kinds.r {A = λ κs. ℕ × List ℕ} (λ κs x d. (x, d.0.now)) refusal-line.Post
-refusal-line-one κs a x y d e = written_one
+pub refusal_line_one : OneShown 1 refusal-line-kinds.ps refusal-line-kinds.r {A = λ κs. ℕ × List ℕ} (λ κs x d. (x, d.0.now)) refusal-line.Post
+refusal_line_one κs a x y d e = written_one
 
-pub told-one : OneAnswer 0 told-kinds.ps told-kinds.r told.Post
-told-one κs a x y d e = determined
+pub told_one : OneAnswer 0 told-kinds.ps told-kinds.r told.Post
+told_one κs a x y d e = determined

@@ -8,53 +8,53 @@ use Rattle.text.specs.Text.{ascii}
 use Rattle.refusal_text.specs.Refusals.{words}
 
 module _ (n : ℕ) where
-  pub words-1 : n ≡ 1 → ascii "fewer than 40 bytes" ≡ words n
+  pub words_1 : n ≡ 1 → ascii "fewer than 40 bytes" ≡ words n
   unfolding words
-  words-1 e = rw e
+  words_1 e = rw e
 
-  pub words-2 : n ≡ 2 → ascii "model not allowed" ≡ words n
+  pub words_2 : n ≡ 2 → ascii "model not allowed" ≡ words n
   unfolding words
-  words-2 e = rw e
+  words_2 e = rw e
 
-  pub words-3 : n ≡ 3 → ascii "order not allowed" ≡ words n
+  pub words_3 : n ≡ 3 → ascii "order not allowed" ≡ words n
   unfolding words
-  words-3 e = rw e
+  words_3 e = rw e
 
-  pub words-4 : n ≡ 4 → ascii "ports not allowed" ≡ words n
+  pub words_4 : n ≡ 4 → ascii "ports not allowed" ≡ words n
   unfolding words
-  words-4 e = rw e
+  words_4 e = rw e
 
-  pub words-5 : n ≡ 5 → ascii "speedup not allowed" ≡ words n
+  pub words_5 : n ≡ 5 → ascii "speedup not allowed" ≡ words n
   unfolding words
-  words-5 e = rw e
+  words_5 e = rw e
 
-  pub words-6 : n ≡ 6 → ascii "slots above 4,096" ≡ words n
+  pub words_6 : n ≡ 6 → ascii "slots above 4,096" ≡ words n
   unfolding words
-  words-6 e = rw e
+  words_6 e = rw e
 
-  pub words-7 : n ≡ 7 → ascii "arrivals above 4,096" ≡ words n
+  pub words_7 : n ≡ 7 → ascii "arrivals above 4,096" ≡ words n
   unfolding words
-  words-7 e = rw e
+  words_7 e = rw e
 
-  pub words-8 : n ≡ 8 → ascii "an offset or the total differs from what the counts make it, or the slice's length is not the total" ≡ words n
+  pub words_8 : n ≡ 8 → ascii "an offset or the total differs from what the counts make it, or the slice's length is not the total" ≡ words n
   unfolding words
-  words-8 e = rw e
+  words_8 e = rw e
 
-  pub words-9 : n ≡ 9 → ascii "a capacity not allowed" ≡ words n
+  pub words_9 : n ≡ 9 → ascii "a capacity not allowed" ≡ words n
   unfolding words
-  words-9 e = rw e
+  words_9 e = rw e
 
-  pub words-10 : n ≡ 10 → ascii "slot counts do not add up to arrivals" ≡ words n
+  pub words_10 : n ≡ 10 → ascii "slot counts do not add up to arrivals" ≡ words n
   unfolding words
-  words-10 e = rw e
+  words_10 e = rw e
 
-  pub words-11 : n ≡ 11 → ascii "an arrival's port is N or more" ≡ words n
+  pub words_11 : n ≡ 11 → ascii "an arrival's port is N or more" ≡ words n
   unfolding words
-  words-11 e = rw e
+  words_11 e = rw e
 
-  pub none-words : n ≡ 0 → ascii "no refusal of a trace" ≡ words n
+  pub none_words : n ≡ 0 → ascii "no refusal of a trace" ≡ words n
   unfolding words
-  none-words e = rw e
+  none_words e = rw e
 
   pub past_words : 12 ≤ n → ascii "no refusal of a trace" ≡ words n
   unfolding words

@@ -18,5 +18,5 @@ words n =
     (cond (eqb n 11) (ascii "an arrival's port is N or more")
     (ascii "no refusal of a trace")))))))))))
 
-unfoldable pub refusalLine : ℕ → List ℕ
-refusalLine n = ascii "refused " ++ decimal n ++ ascii ": " ++ words n ++ ascii "\n"
+unfoldable pub refusal_line : ℕ → List ℕ
+refusal_line n = ascii "refused " ++ decimal n ++ ascii ": " ++ words n ++ ascii "\n"

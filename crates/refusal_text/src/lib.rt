@@ -1,7 +1,7 @@
 // A trace's refusal for a person: its number with the words of document 01's table, as a line on a lent page.
 ghost use Rattle.std.specs.Prelude.{◌≡◌, ◌≤◌};
 ghost use Rattle.text.specs.Text.{Written};
-ghost use Rattle.refusal_text.specs.Refusals.{words, refusalLine};
+ghost use Rattle.refusal_text.specs.Refusals.{words, refusal_line};
 
 // Given exactly when. A few at a time: each text in a function makes all of its proof longer.
 fn first_words(page: &mut [u8], at: usize, n: u32) -> usize
@@ -73,7 +73,7 @@ fn words(page: &mut [u8], at: usize, n: u32) -> usize
 
 // The line of refusal n.
 pub fn refusal_line(page: &mut [u8], at: usize, n: u32) -> usize
-    ensures { Written page.old at (refusalLine n) page.new result }
+    ensures { Written page.old at (refusal_line n) page.new result }
 {
     let behind_refused = text::put(page, at, b"refused ");
     let behind_number = text::decimal(page, behind_refused, n);

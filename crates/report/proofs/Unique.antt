@@ -7,5 +7,5 @@ use Rattle.text.proofs.Unique.{written_one}
 use Rattle.report.proofs.report.report.Kinds as report-kinds
 use Rattle.report.proofs.report.report.Reads as report
 
-pub report-one : OneShown 2 report-kinds.ps report-kinds.r {A = λ κs. ℕ × List ℕ} (λ κs x d. (x, d.1.0.now)) report.Post
-report-one κs a x y d e = written_one
+pub report_one : OneShown 2 report-kinds.ps report-kinds.r {A = λ κs. ℕ × List ℕ} (λ κs x d. (x, d.1.0.now)) report.Post
+report_one κs a x y d e = written_one

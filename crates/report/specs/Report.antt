@@ -8,11 +8,11 @@ use Rattle.switch.specs.declared.Drain.TheVariants.{Empty, NotEmpty, Refused}
 use Rattle.switch.specs.Switch.{held}
 use Rattle.switch.specs.Draining.{quiet}
 use Rattle.run.specs.Run.{whole}
-use Rattle.loss.specs.Loss.{perThousand}
+use Rattle.loss.specs.Loss.{per_thousand}
 
 -- the counts of a switch
-unfoldable pub countLines : Switch → List ℕ
-countLines w =
+unfoldable pub count_lines : Switch → List ℕ
+count_lines w =
     line (ascii "arrived") w.arrived
     ++ line (ascii "dropped") w.dropped
     ++ line (ascii "crossed") w.crossed
@@ -23,20 +23,20 @@ countLines w =
 -- the counts as at the trace's end, the loss, and the quiet slots of a drain
 unfoldable pub totals : Switch → ℕ → List ℕ
 totals w quietSlots =
-    countLines w
-    ++ line (ascii "per-thousand") (perThousand w.dropped w.arrived)
+    count_lines w
+    ++ line (ascii "per-thousand") (per_thousand w.dropped w.arrived)
     ++ line (ascii "quiet") quietSlots
 
 -- an accepted trace, or its refusal; the drain's limit is 4,096
-unfoldable pub reportAs : ℕ → List ℕ → List ℕ
-reportAs zero s = let w = (whole s).switch in totals w (quiet w 4096)
-reportAs (suc n) s = line (ascii "refused") (suc n)
+unfoldable pub report_as : ℕ → List ℕ → List ℕ
+report_as zero s = let w = (whole s).switch in totals w (quiet w 4096)
+report_as (suc n) s = line (ascii "refused") (suc n)
 
-unfoldable pub reportOf : List ℕ → List ℕ
-reportOf s = ascii "name value\n" ++ reportAs (reading s) s
+unfoldable pub report_of : List ℕ → List ℕ
+report_of s = ascii "name value\n" ++ report_as (reading s) s
 
 -- the number in each answer of a drain
-abbrev pub slotsIn : Drain → ℕ
-slotsIn (Empty n) = n
-slotsIn (NotEmpty n) = n
-slotsIn (Refused n) = n
+abbrev pub slots_in : Drain → ℕ
+slots_in (Empty n) = n
+slots_in (NotEmpty n) = n
+slots_in (Refused n) = n

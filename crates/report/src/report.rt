@@ -3,12 +3,12 @@ ghost use Rattle.std.specs.Prelude.{◌≡◌, ◌+◌};
 ghost use Rattle.text.specs.Text.{Written};
 ghost use Rattle.switch.specs.Switch.{held};
 ghost use Rattle.switch.specs.Draining.{drain};
-ghost use Rattle.report.specs.Report.{countLines, totals, reportOf, slotsIn};
+ghost use Rattle.report.specs.Report.{count_lines, totals, report_of, slots_in};
 
 use switch::{Drain, Switch};
 
 fn slots_in(answer: Drain) -> u32
-    ensures { result ≡ slotsIn answer }
+    ensures { result ≡ slots_in answer }
 {
     match answer {
         Drain::Empty(n) => n,
@@ -19,7 +19,7 @@ fn slots_in(answer: Drain) -> u32
 
 // The slots of a drain with limit 4,096.
 fn quiet_slots(s: Switch) -> u32
-    ensures { result ≡ slotsIn (drain s 4096).answer }
+    ensures { result ≡ slots_in (drain s 4096).answer }
 {
     let drained = s.drain(4096);
     let answer = drained.answer;
@@ -29,7 +29,7 @@ fn quiet_slots(s: Switch) -> u32
 // The counts: what arrived and was neither dropped nor sent is held.
 fn count_lines(page: &mut [u8], at: usize, s: Switch) -> usize
     requires { s.arrived ≡ s.dropped + s.sent + held s }
-    ensures { Written page.old at (countLines s) page.new result }
+    ensures { Written page.old at (count_lines s) page.new result }
 {
     let held = s.arrived - s.dropped - s.sent;
     let arrived = text::line(page, at, b"arrived", s.arrived);
@@ -53,7 +53,7 @@ fn totals(page: &mut [u8], at: usize, s: Switch, quiet: u32) -> usize
 
 // The report on a trace, from the page's start. 16,384 words are room enough for any trace's log.
 pub fn report(trace: &[u8], page: &mut [u8]) -> usize
-    ensures { Written page.old 0 (reportOf trace.now) page.new result }
+    ensures { Written page.old 0 (report_of trace.now) page.new result }
 {
     let mut log = [0u32; 16384];
     let end = run::finish(trace, &mut log);

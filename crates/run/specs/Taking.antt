@@ -1,7 +1,7 @@
 -- A slot's arrivals as they come out of the part of the trace that holds them, two bytes each.
 use Rattle.std.specs.Prelude.{ℕ, zero, suc, ◌+◌, ◌*◌, ◌/◌, Bool, List, length, get_or, ◌≡◌}
 use Rattle.queues.specs.declared.Queues.{Queues}
-use Rattle.queues.specs.Events.{logOf, ofKind}
+use Rattle.queues.specs.Events.{log_of, of_kind}
 use Rattle.queues.specs.Log.{logged, onward}
 use Rattle.queues.specs.Slot.{Done, begun, after, arrival, closing}
 use Rattle.run.specs.declared.Took.{Took}
@@ -21,7 +21,7 @@ slot_of crossbar q ports turn speedup slot part =
 
 -- as they are left in the lent input queues and the log
 pub record Taken (d : Done) (inlen log kept : List ℕ) (at : ℕ) (r : Took) : Type 0 where
-  pub of-inlen : inlen ≡ d.queues.inlen
-  pub of-log : kept ≡ logged log at (logOf d.events)
+  pub of_inlen : inlen ≡ d.queues.inlen
+  pub of_log : kept ≡ logged log at (log_of d.events)
   pub of_at : r.at ≡ onward (length log) at (length d.events)
-  pub of-dropped : r.dropped ≡ ofKind 2 d.events
+  pub of_dropped : r.dropped ≡ of_kind 2 d.events

@@ -1,9 +1,9 @@
 // All slots of an accepted trace, in place: no switch is copied for an event.
 ghost use Rattle.std.specs.Prelude.{◌≡◌, ◌≤◌, ◌/◌, length};
-ghost use Rattle.layout.specs.Header.{hasCrosspoints};
-ghost use Rattle.trace.specs.Reading.{headerOf, reading};
+ghost use Rattle.layout.specs.Header.{has_crosspoints};
+ghost use Rattle.trace.specs.Reading.{header_of, reading};
 ghost use Rattle.queues.specs.declared.Queues.{Queues};
-ghost use Rattle.queues.specs.Events.{logOf, ofKind};
+ghost use Rattle.queues.specs.Events.{log_of, of_kind};
 ghost use Rattle.queues.specs.Log.{logged, onward};
 ghost use Rattle.queues.specs.Turn.{turn};
 ghost use Rattle.queues.specs.Lent.{Held, LeftAll};
@@ -41,7 +41,7 @@ fn one_slot(
     at: usize,
 ) -> Took
     requires { (length part.now ≤ 131072) × (ports ≤ 16) }
-    ensures { (q : Queues) → incap.now ≡ q.incap → Held q outcap.now crosscap.now inlen.old outlen.old crosslen.old → LeftAll (slot_of (hasCrosspoints model) q ports (turn order ports slot) speedup slot part.now) inlen.new outlen.new crosslen.new log.old log.new at result.at × (result.dropped ≡ ofKind 2 (takings q slot part.now (length part.now / 2)).events) }
+    ensures { (q : Queues) → incap.now ≡ q.incap → Held q outcap.now crosscap.now inlen.old outlen.old crosslen.old → LeftAll (slot_of (has_crosspoints model) q ports (turn order ports slot) speedup slot part.now) inlen.new outlen.new crosslen.new log.old log.new at result.at × (result.dropped ≡ of_kind 2 (takings q slot part.now (length part.now / 2)).events) }
 {
     let took = taking::take_all(part, slot, incap, inlen, log, at);
     let turn = queues::turn(order, ports, slot);
@@ -66,8 +66,8 @@ fn one_slot(
 }
 
 pub(crate) fn all_slots(trace: &[u8], s: Switch, slots: u32, log: &mut [u32]) -> Ended
-    requires { (reading trace.now ≡ 0) × (s ≡ fresh trace.now) × (slots ≡ (headerOf trace.now).slots) }
-    ensures { (result.queues ≡ (whole trace.now).switch.queues) × (result.dropped ≡ (whole trace.now).switch.dropped) × (log.new ≡ logged log.old 0 (logOf (whole trace.now).events)) × (result.words ≡ onward (length log.old) 0 (length (whole trace.now).events)) }
+    requires { (reading trace.now ≡ 0) × (s ≡ fresh trace.now) × (slots ≡ (header_of trace.now).slots) }
+    ensures { (result.queues ≡ (whole trace.now).switch.queues) × (result.dropped ≡ (whole trace.now).switch.dropped) × (log.new ≡ logged log.old 0 (log_of (whole trace.now).events)) × (result.words ≡ onward (length log.old) 0 (length (whole trace.now).events)) }
 {
     let q = s.queues;
     let incap = q.incap;

@@ -5,26 +5,26 @@ use mathlib.Core.Path.{◌≡◌}
 use mathlib.Core.Bool.{true, ◌&&◌}
 use borrow.Author.Tests.{leb-true, eqb-true}
 use Rattle.base.proofs.Below.{both_true}
-use Rattle.layout.specs.Header.{modelAllowed, orderAllowed}
-use Rattle.layout.proofs.HeaderLaws.{side-small}
+use Rattle.layout.specs.Header.{model_allowed, order_allowed}
+use Rattle.layout.proofs.HeaderLaws.{side_small}
 use Rattle.switch.specs.declared.Switch.{Switch}
-use Rattle.switch.specs.Switch.{heldOut, heldCross, held}
-use Rattle.switch.specs.Allowed.{queuesAllowed, countsAgree, switchAllowed}
+use Rattle.switch.specs.Switch.{held_out, held_cross, held}
+use Rattle.switch.specs.Allowed.{queues_allowed, counts_agree, switch_allowed}
 
 pub record Sound (s : Switch) : Type 0 where
-  pub model : modelAllowed s.model ≡ true
-  pub order : orderAllowed s.order ≡ true
+  pub model : model_allowed s.model ≡ true
+  pub order : order_allowed s.order ≡ true
   pub ports : (1 ≤ s.ports) × (s.ports ≤ 16)
   pub speedup : (1 ≤ s.speedup) × (s.speedup ≤ 16)
-  pub queues : queuesAllowed s.model s.ports s.queues ≡ true
+  pub queues : queues_allowed s.model s.ports s.queues ≡ true
   pub few : s.arrived ≤ 4096
   pub slot : s.slot ≤ 8192
   pub arrived : s.arrived ≡ s.dropped + s.sent + held s
-  pub crossed : s.crossed ≡ s.sent + heldOut s.queues + heldCross s.queues
-  pub outmoved : s.outmoved ≡ s.sent + heldOut s.queues
+  pub crossed : s.crossed ≡ s.sent + held_out s.queues + held_cross s.queues
+  pub outmoved : s.outmoved ≡ s.sent + held_out s.queues
 
-pub sound : (s : Switch) → switchAllowed s ≡ true → Sound s
-unfolding switchAllowed countsAgree
+pub sound : (s : Switch) → switch_allowed s ≡ true → Sound s
+unfolding switch_allowed counts_agree
 sound s e =
     let a = both_true _ _ e in
     let b = both_true _ _ a.1 in
@@ -38,8 +38,8 @@ sound s e =
     record {
       model = a.0;
       order = b.0;
-      ports = side-small _ c.0;
-      speedup = side-small _ d.0;
+      ports = side_small _ c.0;
+      speedup = side_small _ d.0;
       queues = f.0;
       few = leb-true _ _ g.0;
       slot = leb-true _ _ h.0;

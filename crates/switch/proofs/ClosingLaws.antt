@@ -7,47 +7,47 @@ use native.Mathlib.Omega.{arith}
 use mathlib.Core.Path.{◌≡◌}
 use mathlib.Core.Logic.{⊎_elim}
 use mathlib.Core.Bool.{true}
-use Rattle.base.proofs.Order.{le-or-lt}
-use Rattle.layout.specs.Header.{hasCrosspoints}
+use Rattle.base.proofs.Order.{le_or_lt}
+use Rattle.layout.specs.Header.{has_crosspoints}
 use Rattle.queues.specs.declared.Queues.{Queues}
-use Rattle.queues.specs.Events.{ofKind}
+use Rattle.queues.specs.Events.{of_kind}
 use Rattle.queues.specs.Turn.{turn}
 use Rattle.slot_laws.proofs.Balance.{Sized}
-use Rattle.slot_laws.proofs.TurnLaws.{turn-visits}
-use Rattle.slot_laws.proofs.ProgressLaws.{Served, closing-sends}
+use Rattle.slot_laws.proofs.TurnLaws.{turn_visits}
+use Rattle.slot_laws.proofs.ProgressLaws.{Served, closing_sends}
 use Rattle.switch.specs.declared.Switch.{Switch}
-use Rattle.switch.specs.Switch.{packets, heldIn, heldOut, heldCross, heldAll, held, outmovedKind, advanced}
-use Rattle.switch.specs.Allowed.{switchAllowed}
-use Rattle.switch.specs.Settling.{sentOf, outmovedOf, crossedOf, settled}
-use Rattle.switch.specs.Steps.{closeStep}
+use Rattle.switch.specs.Switch.{packets, held_in, held_out, held_cross, held_all, held, outmoved_kind, advanced}
+use Rattle.switch.specs.Allowed.{switch_allowed}
+use Rattle.switch.specs.Settling.{sent_of, outmoved_of, crossed_of, settled}
+use Rattle.switch.specs.Steps.{close_step}
 use Rattle.switch.proofs.AllowedLaws.{sound}
-use Rattle.switch.proofs.QueuesKept.{queues-served}
-use Rattle.switch.proofs.KeepsLaws.{closingOf, closing-accounts, balanced-all, balanced-crossed, balanced-outmoved}
+use Rattle.switch.proofs.QueuesKept.{queues_served}
+use Rattle.switch.proofs.KeepsLaws.{closing_of, closing_accounts, balanced_all, balanced_crossed, balanced_outmoved}
 
-module _ (s : Switch) (z : Sized s.queues) (e : switchAllowed s ≡ true) where
+module _ (s : Switch) (z : Sized s.queues) (e : switch_allowed s ≡ true) where
   -- what is left was not dropped
-  pub left-arrived : heldAll (closingOf s).queues + s.dropped ≤ s.arrived
+  pub left_arrived : held_all (closing_of s).queues + s.dropped ≤ s.arrived
   unfolding held
-  left-arrived =
+  left_arrived =
       let a = sound s e in
-      let all = balanced-all (hasCrosspoints s.model) (closing-accounts s z e) in
+      let all = balanced_all (has_crosspoints s.model) (closing_accounts s z e) in
       omega arith
 
-  pub closed-counts : closeStep s ≡ settled s (closingOf s).queues
-  unfolding closeStep advanced held
-  closed-counts =
+  pub closed_counts : close_step s ≡ settled s (closing_of s).queues
+  unfolding close_step advanced held
+  closed_counts =
       let a = sound s e in
-      let t = hasCrosspoints s.model in
-      let d = closingOf s in
-      let b = closing-accounts s z e in
-      let all = balanced-all t b in
-      let crossed = balanced-crossed t b in
-      let outmoved = balanced-outmoved t b in
-      let arrived-same : s.arrived + (ofKind 1 d.events + ofKind 2 d.events) ≡ s.arrived = omega arith in
-      let dropped-same : s.dropped + ofKind 2 d.events ≡ s.dropped = omega arith in
-      let sent_is : s.sent + ofKind 5 d.events ≡ sentOf s d.queues = omega arith in
-      let outmoved-is : s.outmoved + ofKind (outmovedKind t) d.events ≡ outmovedOf s d.queues = omega arith in
-      let crossed-is : s.crossed + ofKind 3 d.events ≡ crossedOf s d.queues = omega arith in
+      let t = has_crosspoints s.model in
+      let d = closing_of s in
+      let b = closing_accounts s z e in
+      let all = balanced_all t b in
+      let crossed = balanced_crossed t b in
+      let outmoved = balanced_outmoved t b in
+      let arrived-same : s.arrived + (of_kind 1 d.events + of_kind 2 d.events) ≡ s.arrived = omega arith in
+      let dropped-same : s.dropped + of_kind 2 d.events ≡ s.dropped = omega arith in
+      let sent_is : s.sent + of_kind 5 d.events ≡ sent_of s d.queues = omega arith in
+      let outmoved-is : s.outmoved + of_kind (outmoved_kind t) d.events ≡ outmoved_of s d.queues = omega arith in
+      let crossed-is : s.crossed + of_kind 3 d.events ≡ crossed_of s d.queues = omega arith in
       λ i.
       record {
         model = s.model;
@@ -64,24 +64,24 @@ module _ (s : Switch) (z : Sized s.queues) (e : switchAllowed s ≡ true) where
       }
 
   -- every input of an allowed switch is served
-  pub switch-served : Served (hasCrosspoints s.model) s.queues s.ports (turn s.order s.ports s.slot)
-  switch-served =
+  pub switch_served : Served (has_crosspoints s.model) s.queues s.ports (turn s.order s.ports s.slot)
+  switch_served =
       let a = sound s e in
-      queues-served s.model s.ports s.queues z a.queues (turn s.order s.ports s.slot) a.ports.1
-      (turn-visits s.order s.ports s.slot)
+      queues_served s.model s.ports s.queues z a.queues (turn s.order s.ports s.slot) a.ports.1
+      (turn_visits s.order s.ports s.slot)
 
-  pub closing-progress : 1 ≤ held s → 1 ≤ ofKind 5 (closingOf s).events
-  unfolding held heldAll heldIn heldOut heldCross packets
-  closing-progress some =
-      closing-sends s.queues s.ports (turn s.order s.ports s.slot) s.slot (hasCrosspoints s.model) switch-served some s.speedup
+  pub closing_progress : 1 ≤ held s → 1 ≤ of_kind 5 (closing_of s).events
+  unfolding held held_all held_in held_out held_cross packets
+  closing_progress some =
+      closing_sends s.queues s.ports (turn s.order s.ports s.slot) s.slot (has_crosspoints s.model) switch_served some s.speedup
       (sound s e).speedup.0
 
   -- one packet fewer is held, or more than one, until there is none
-  pub held-falls : held (closeStep s) ≤ held s - 1
-  unfolding held closeStep advanced
-  held-falls =
-      let all = balanced-all (hasCrosspoints s.model) (closing-accounts s z e) in
+  pub held_falls : held (close_step s) ≤ held s - 1
+  unfolding held close_step advanced
+  held_falls =
+      let all = balanced_all (has_crosspoints s.model) (closing_accounts s z e) in
       ⊎_elim
-      (λ (some : 1 ≤ held s). let sends = closing-progress some in omega arith)
+      (λ (some : 1 ≤ held s). let sends = closing_progress some in omega arith)
       (λ (none : held s < 1). omega arith)
-      (le-or-lt 1 (held s))
+      (le_or_lt 1 (held s))

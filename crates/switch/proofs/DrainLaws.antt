@@ -10,22 +10,22 @@ use mathlib.Core.Logic.{◌≢◌, ⊎_elim}
 use mathlib.Core.Bool.{true}
 use lib.Dec.{eqb}
 use borrow.Author.Tests.{leb-true, le-leb, lt-leb, eqb-true, eqb-false, eq-eqb, ne_eqb}
-use Rattle.base.proofs.Lowest.{lowest-bound, lowest-passes, lowest-least, lowest-first, lowest-found, lowest-none}
-use Rattle.base.proofs.Order.{le-or-lt}
-use Rattle.base.proofs.Refusal.{unless-zero, chain-zero}
+use Rattle.base.proofs.Lowest.{lowest_bound, lowest_passes, lowest_least, lowest_first, lowest_found, lowest_none}
+use Rattle.base.proofs.Order.{le_or_lt}
+use Rattle.base.proofs.Refusal.{unless_zero, chain_zero}
 use Rattle.slot_laws.proofs.Balance.{Sized}
 use Rattle.switch.specs.declared.Switch.{Switch}
 use Rattle.switch.specs.declared.Drain.TheVariants.{Empty, NotEmpty}
 use Rattle.switch.specs.Switch.{held}
-use Rattle.switch.specs.Allowed.{switchAllowed}
-use Rattle.switch.specs.Steps.{closeStep}
-use Rattle.switch.specs.Draining.{drainRefusal, closings, quiet, drainedAs, drainAnswer, drain}
-use Rattle.switch.proofs.KeepsLaws.{close-keeps}
-use Rattle.switch.proofs.ClosingLaws.{closed-counts, held-falls}
+use Rattle.switch.specs.Allowed.{switch_allowed}
+use Rattle.switch.specs.Steps.{close_step}
+use Rattle.switch.specs.Draining.{drain_refusal, closings, quiet, drained_as, drain_answer, drain}
+use Rattle.switch.proofs.KeepsLaws.{close_keeps}
+use Rattle.switch.proofs.ClosingLaws.{closed_counts, held_falls}
 
 -- w is an allowed switch after n closings of s: what closings leave alone is as it was
 pub record After (s : Switch) (n : ℕ) (w : Switch) : Type 0 where
-  pub allowed : switchAllowed w ≡ true
+  pub allowed : switch_allowed w ≡ true
   pub sized : Sized w.queues
   pub slot : w.slot ≡ s.slot + n
   pub model : w.model ≡ s.model
@@ -35,12 +35,12 @@ pub record After (s : Switch) (n : ℕ) (w : Switch) : Type 0 where
   pub arrived : w.arrived ≡ s.arrived
   pub dropped : w.dropped ≡ s.dropped
 
-module _ (s : Switch) (z : Sized s.queues) (e : switchAllowed s ≡ true) where
-  after-closing : (n : ℕ) (w : Switch) → s.slot + suc n ≤ 8192 → After s n w → After s (suc n) (closeStep w)
-  after-closing n w low a =
+module _ (s : Switch) (z : Sized s.queues) (e : switch_allowed s ≡ true) where
+  after_closing : (n : ℕ) (w : Switch) → s.slot + suc n ≤ 8192 → After s n w → After s (suc n) (close_step w)
+  after_closing n w low a =
       let at = a.slot in
-      let k = close-keeps w a.sized a.allowed (omega arith) in
-      let c = closed-counts w a.sized a.allowed in
+      let k = close_keeps w a.sized a.allowed (omega arith) in
+      let c = closed_counts w a.sized a.allowed in
       record {
         allowed = k.0;
         sized = k.1;
@@ -53,9 +53,9 @@ module _ (s : Switch) (z : Sized s.queues) (e : switchAllowed s ≡ true) where
         dropped = ap (λ (x : Switch). x.dropped) c ∙ a.dropped;
       }
 
-  pub closings-keep : (n : ℕ) → s.slot + n ≤ 8192 → After s n (closings s n)
+  pub closings_keep : (n : ℕ) → s.slot + n ≤ 8192 → After s n (closings s n)
   unfolding closings
-  closings-keep zero low =
+  closings_keep zero low =
       record {
         allowed = e;
         sized = z;
@@ -67,81 +67,81 @@ module _ (s : Switch) (z : Sized s.queues) (e : switchAllowed s ≡ true) where
         arrived = refl;
         dropped = refl;
       }
-  closings-keep (suc n) low = after-closing n (closings s n) low (closings-keep n (omega arith))
+  closings_keep (suc n) low = after_closing n (closings s n) low (closings_keep n (omega arith))
 
   -- each closing leaves one packet fewer, or none
-  pub closings-fall : (n : ℕ) → s.slot + suc n ≤ 8192 → held (closings s (suc n)) ≤ held (closings s n) - 1
+  pub closings_fall : (n : ℕ) → s.slot + suc n ≤ 8192 → held (closings s (suc n)) ≤ held (closings s n) - 1
   unfolding closings
-  closings-fall n low =
-      let a = closings-keep n (omega arith) in
-      held-falls (closings s n) a.sized a.allowed
+  closings_fall n low =
+      let a = closings_keep n (omega arith) in
+      held_falls (closings s n) a.sized a.allowed
 
-  pub closings-held : (n : ℕ) → s.slot + n ≤ 8192 → held (closings s n) ≤ held s - n
+  pub closings_held : (n : ℕ) → s.slot + n ≤ 8192 → held (closings s n) ≤ held s - n
   unfolding closings
-  closings-held zero low = omega arith
-  closings-held (suc n) low =
-      let rest = closings-held n (omega arith) in
-      let falls = closings-fall n low in
+  closings_held zero low = omega arith
+  closings_held (suc n) low =
+      let rest = closings_held n (omega arith) in
+      let falls = closings_fall n low in
       omega arith
 
   -- so as many closings as packets are held leave nothing
-  pub held-empties : s.slot + held s ≤ 8192 → held (closings s (held s)) ≡ 0
-  held-empties low = omega (arith, closings-held (held s) low)
+  pub held_empties : s.slot + held s ≤ 8192 → held (closings s (held s)) ≡ 0
+  held_empties low = omega (arith, closings_held (held s) low)
 
-pub closings-more : (s : Switch) (n : ℕ) → closings s (n + 1) ≡ closeStep (closings s n)
+pub closings_more : (s : Switch) (n : ℕ) → closings s (n + 1) ≡ close_step (closings s n)
 unfolding closings
-closings-more s n = rw add-one
+closings_more s n = rw add-one
 
 -- the count of quiet slots is the least after which nothing is held
 module _ (s : Switch) (limit : ℕ) where
-  pub quiet-bound : quiet s limit ≤ suc limit
+  pub quiet_bound : quiet s limit ≤ suc limit
   unfolding quiet
-  quiet-bound = lowest-bound (λ n. eqb (held (closings s n)) 0) (suc limit)
+  quiet_bound = lowest_bound (λ n. eqb (held (closings s n)) 0) (suc limit)
 
-  pub quiet-empty : quiet s limit ≤ limit → held (closings s (quiet s limit)) ≡ 0
+  pub quiet_empty : quiet s limit ≤ limit → held (closings s (quiet s limit)) ≡ 0
   unfolding quiet
-  quiet-empty h = eqb-true _ 0 (lowest-passes (λ n. eqb (held (closings s n)) 0) (suc limit) (omega arith))
+  quiet_empty h = eqb-true _ 0 (lowest_passes (λ n. eqb (held (closings s n)) 0) (suc limit) (omega arith))
 
-  pub quiet-least : (n : ℕ) → n < quiet s limit → held (closings s n) ≢ 0
+  pub quiet_least : (n : ℕ) → n < quiet s limit → held (closings s n) ≢ 0
   unfolding quiet
-  quiet-least n h = eqb-false _ 0 (lowest-least (λ n. eqb (held (closings s n)) 0) (suc limit) n h)
+  quiet_least n h = eqb-false _ 0 (lowest_least (λ n. eqb (held (closings s n)) 0) (suc limit) n h)
 
-  pub quiet-first : (n : ℕ) → held (closings s n) ≡ 0 → quiet s limit ≤ n
+  pub quiet_first : (n : ℕ) → held (closings s n) ≡ 0 → quiet s limit ≤ n
   unfolding quiet
-  quiet-first n h = lowest-first (λ n. eqb (held (closings s n)) 0) (suc limit) n (eq-eqb _ 0 h)
+  quiet_first n h = lowest_first (λ n. eqb (held (closings s n)) 0) (suc limit) n (eq-eqb _ 0 h)
 
   -- so it is the first number of closings that is found to leave nothing, and past the limit where none up to the limit does
-  pub quiet-found : (n : ℕ) → n ≤ limit → held (closings s n) ≡ 0 → ((m : ℕ) → m < n → held (closings s m) ≢ 0) → quiet s limit ≡ n
+  pub quiet_found : (n : ℕ) → n ≤ limit → held (closings s n) ≡ 0 → ((m : ℕ) → m < n → held (closings s m) ≢ 0) → quiet s limit ≡ n
   unfolding quiet
-  quiet-found n l h before =
-      lowest-found (λ n. eqb (held (closings s n)) 0) (suc limit) n (omega arith) (eq-eqb _ 0 h) (λ m less. ne_eqb _ 0 (before m less))
+  quiet_found n l h before =
+      lowest_found (λ n. eqb (held (closings s n)) 0) (suc limit) n (omega arith) (eq-eqb _ 0 h) (λ m less. ne_eqb _ 0 (before m less))
 
   pub quiet_none : ((m : ℕ) → m ≤ limit → held (closings s m) ≢ 0) → quiet s limit ≡ suc limit
   unfolding quiet
-  quiet_none never = lowest-none (λ n. eqb (held (closings s n)) 0) (suc limit) (λ m less. ne_eqb _ 0 (never m (omega arith)))
+  quiet_none never = lowest_none (λ n. eqb (held (closings s n)) 0) (suc limit) (λ m less. ne_eqb _ 0 (never m (omega arith)))
 
   -- and at most what is held
-  pub quiet-few : Sized s.queues → switchAllowed s ≡ true → s.slot + held s ≤ 8192 → quiet s limit ≤ held s
-  quiet-few z e low = quiet-first (held s) (held-empties s z e low)
+  pub quiet_few : Sized s.queues → switch_allowed s ≡ true → s.slot + held s ≤ 8192 → quiet s limit ≤ held s
+  quiet_few z e low = quiet_first (held s) (held_empties s z e low)
 
-  pub drains : Sized s.queues → switchAllowed s ≡ true → s.slot + limit ≤ 8192 → held s ≤ limit → (quiet s limit ≤ held s) × (held (closings s (quiet s limit)) ≡ 0)
-  drains z e low h = let few = quiet-few z e (omega arith) in (few, quiet-empty (omega arith))
+  pub drains : Sized s.queues → switch_allowed s ≡ true → s.slot + limit ≤ 8192 → held s ≤ limit → (quiet s limit ≤ held s) × (held (closings s (quiet s limit)) ≡ 0)
+  drains z e low h = let few = quiet_few z e (omega arith) in (few, quiet_empty (omega arith))
 
-  pub drain-may : drainRefusal s limit ≡ 0 → (switchAllowed s ≡ true) × (limit ≤ 4096) × (s.slot + limit ≤ 8192)
-  unfolding drainRefusal
-  drain-may r =
-      let thirteen = chain-zero _ _ r in
-      let sixteen = chain-zero _ _ thirteen.1 in
-      (unless-zero _ 12 thirteen.0, leb-true _ _ (unless-zero _ 15 sixteen.0), leb-true _ _ (unless-zero _ 14 sixteen.1))
+  pub drain_may : drain_refusal s limit ≡ 0 → (switch_allowed s ≡ true) × (limit ≤ 4096) × (s.slot + limit ≤ 8192)
+  unfolding drain_refusal
+  drain_may r =
+      let thirteen = chain_zero _ _ r in
+      let sixteen = chain_zero _ _ thirteen.1 in
+      (unless_zero _ 12 thirteen.0, leb-true _ _ (unless_zero _ 15 sixteen.0), leb-true _ _ (unless_zero _ 14 sixteen.1))
 
   -- a drain that ends empty, and one that does not
-  pub drain-empty : drainRefusal s limit ≡ 0 → quiet s limit ≤ limit → drain s limit ≡ record { answer = Empty (quiet s limit); switch = closings s (quiet s limit) }
-  unfolding drain drainAnswer drainedAs
-  drain-empty r h = rw (r, le-leb (quiet s limit) limit h)
+  pub drain_empty : drain_refusal s limit ≡ 0 → quiet s limit ≤ limit → drain s limit ≡ record { answer = Empty (quiet s limit); switch = closings s (quiet s limit) }
+  unfolding drain drain_answer drained_as
+  drain_empty r h = rw (r, le-leb (quiet s limit) limit h)
 
-  pub drain-not-empty : drainRefusal s limit ≡ 0 → limit < quiet s limit → drain s limit ≡ record { answer = NotEmpty limit; switch = closings s limit }
-  unfolding drain drainAnswer drainedAs
-  drain-not-empty r h = rw (r, lt-leb (quiet s limit) limit h)
+  pub drain_not_empty : drain_refusal s limit ≡ 0 → limit < quiet s limit → drain s limit ≡ record { answer = NotEmpty limit; switch = closings s limit }
+  unfolding drain drain_answer drained_as
+  drain_not_empty r h = rw (r, lt-leb (quiet s limit) limit h)
 
 -- what a drain whose limit is no less than what is held ends with
 pub record Drains (s : Switch) (limit : ℕ) : Type 0 where
@@ -150,22 +150,22 @@ pub record Drains (s : Switch) (limit : ℕ) : Type 0 where
   pub empty : held (closings s (quiet s limit)) ≡ 0
   pub least : (n : ℕ) → n < quiet s limit → held (closings s n) ≢ 0
 
-pub drain-ends : (s : Switch) (limit : ℕ) → Sized s.queues → drainRefusal s limit ≡ 0 → held s ≤ limit → Drains s limit
-drain-ends s limit z r h =
-    let may = drain-may s limit r in
-    let few = quiet-few s limit z may.0 (omega arith) in
+pub drain_ends : (s : Switch) (limit : ℕ) → Sized s.queues → drain_refusal s limit ≡ 0 → held s ≤ limit → Drains s limit
+drain_ends s limit z r h =
+    let may = drain_may s limit r in
+    let few = quiet_few s limit z may.0 (omega arith) in
     let within : quiet s limit ≤ limit = omega arith in
-    record { answer = drain-empty s limit r within; few = few; empty = quiet-empty s limit within; least = quiet-least s limit }
+    record { answer = drain_empty s limit r within; few = few; empty = quiet_empty s limit within; least = quiet_least s limit }
 
 -- a loop of closings that stops at a switch which holds nothing, and one that stops at its limit
-module _ (s : Switch) (limit n : ℕ) (w : Switch) (may : drainRefusal s limit ≡ 0) (le : n ≤ limit) (at : w ≡ closings s n) (before : (m : ℕ) → m < n → held (closings s m) ≡ 0 → ⊥) where
-  pub ended-empty : held w ≡ 0 → record { answer = Empty n; switch = w } ≡ drain s limit
-  ended-empty e =
-      let found : quiet s limit ≡ n = quiet-found s limit n le (sym (ap held at) ∙ e) before in
-      rw at (sym (rw found at (drain-empty s limit may (rw found le))))
+module _ (s : Switch) (limit n : ℕ) (w : Switch) (may : drain_refusal s limit ≡ 0) (le : n ≤ limit) (at : w ≡ closings s n) (before : (m : ℕ) → m < n → held (closings s m) ≡ 0 → ⊥) where
+  pub ended_empty : held w ≡ 0 → record { answer = Empty n; switch = w } ≡ drain s limit
+  ended_empty e =
+      let found : quiet s limit ≡ n = quiet_found s limit n le (sym (ap held at) ∙ e) before in
+      rw at (sym (rw found at (drain_empty s limit may (rw found le))))
 
-  pub ended-not-empty : limit ≤ n → (held w ≡ 0 → ⊥) → record { answer = NotEmpty limit; switch = w } ≡ drain s limit
-  ended-not-empty ge some =
+  pub ended_not_empty : limit ≤ n → (held w ≡ 0 → ⊥) → record { answer = NotEmpty limit; switch = w } ≡ drain s limit
+  ended_not_empty ge some =
       let same : n ≡ limit = omega arith in
       let none : quiet s limit ≡ suc limit =
       quiet_none s limit
@@ -173,5 +173,5 @@ module _ (s : Switch) (limit n : ℕ) (w : Switch) (may : drainRefusal s limit �
       ⊎_elim
       (λ (over : n ≤ m). λ (z : held (closings s m) ≡ 0). let e : m ≡ n = omega arith in some (ap held at ∙ (rw e at z)))
       (λ (less : m < n). before m less)
-      (le-or-lt n m)) in
-      rw (at, same) (sym (drain-not-empty s limit may (rw none (omega arith))))
+      (le_or_lt n m)) in
+      rw (at, same) (sym (drain_not_empty s limit may (rw none (omega arith))))

@@ -10,33 +10,33 @@ use mathlib.Core.List.{List}
 use lib.Dec.{leb}
 use borrow.Author.Tests.{le-leb, eq-eqb}
 use Rattle.base.proofs.Sums.{total}
-use Rattle.layout.specs.Header.{sideAllowed, hasCrosspoints}
+use Rattle.layout.specs.Header.{side_allowed, has_crosspoints}
 use Rattle.queues.specs.declared.Queues.{Queues}
-use Rattle.queues.specs.Events.{ofKind}
+use Rattle.queues.specs.Events.{of_kind}
 use Rattle.queues.specs.Turn.{turn}
 use Rattle.queues.specs.Slot.{Done, arrival, closing}
-use Rattle.slot_laws.proofs.Balance.{Sized, Bounded, kept-sized, Balanced, balanced-held}
-use Rattle.slot_laws.proofs.SlotLaws.{Arrived, arrival-arrived, closing-balanced}
+use Rattle.slot_laws.proofs.Balance.{Sized, Bounded, kept_sized, Balanced, balanced_held}
+use Rattle.slot_laws.proofs.SlotLaws.{Arrived, arrival_arrived, closing_balanced}
 use Rattle.switch.specs.declared.Switch.{Switch}
-use Rattle.switch.specs.Switch.{packets, heldIn, heldOut, heldCross, heldAll, held, outmovedKind, advanced}
-use Rattle.switch.specs.Allowed.{countsAgree, switchAllowed}
-use Rattle.switch.specs.Steps.{arriveRefusal, arriveStep, closeStep}
+use Rattle.switch.specs.Switch.{packets, held_in, held_out, held_cross, held_all, held, outmoved_kind, advanced}
+use Rattle.switch.specs.Allowed.{counts_agree, switch_allowed}
+use Rattle.switch.specs.Steps.{arrive_refusal, arrive_step, close_step}
 use Rattle.switch.proofs.AllowedLaws.{Sound, sound}
-use Rattle.switch.proofs.StepsLaws.{more-may-arrive}
-use Rattle.switch.proofs.QueuesKept.{both, allowed-bounded, queues-kept}
+use Rattle.switch.proofs.StepsLaws.{more_may_arrive}
+use Rattle.switch.proofs.QueuesKept.{both, allowed_bounded, queues_kept}
 
-side-allowed : (n : ℕ) → (1 ≤ n) × (n ≤ 16) → sideAllowed n ≡ true
-unfolding sideAllowed
-side-allowed n h = both (leb 1 n) (leb n 16) (le-leb 1 n h.0) (le-leb n 16 h.1)
+side_allowed_lem : (n : ℕ) → (1 ≤ n) × (n ≤ 16) → side_allowed n ≡ true
+unfolding side_allowed
+side_allowed_lem n h = both (leb 1 n) (leb n 16) (le-leb 1 n h.0) (le-leb n 16 h.1)
 
 -- the other way round from `sound`
-pub allowed-by-parts : (s : Switch) → Sound s → switchAllowed s ≡ true
-unfolding switchAllowed countsAgree
-allowed-by-parts s a =
+pub allowed_by_parts : (s : Switch) → Sound s → switch_allowed s ≡ true
+unfolding switch_allowed counts_agree
+allowed_by_parts s a =
     both _ _ a.model
     (both _ _ a.order
-    (both _ _ (side-allowed s.ports a.ports)
-    (both _ _ (side-allowed s.speedup a.speedup)
+    (both _ _ (side_allowed_lem s.ports a.ports)
+    (both _ _ (side_allowed_lem s.speedup a.speedup)
     (both _ _ a.queues
     (both _ _ (le-leb s.arrived 4096 a.few)
     (both _ _ (le-leb s.slot 8192 a.slot)
@@ -49,11 +49,11 @@ pub record Conserved (s : Switch) : Type 0 where
   pub sent : s.sent ≤ s.outmoved
   pub outmoved : s.outmoved ≤ s.crossed
   pub crossed : s.crossed + s.dropped ≤ s.arrived
-  pub sent-arrived : s.sent ≤ s.arrived
-  pub crossed-arrived : s.crossed ≤ s.arrived
+  pub sent_arrived : s.sent ≤ s.arrived
+  pub crossed_arrived : s.crossed ≤ s.arrived
 
-pub conserved : (s : Switch) → switchAllowed s ≡ true → Conserved s
-unfolding held heldAll
+pub conserved : (s : Switch) → switch_allowed s ≡ true → Conserved s
+unfolding held held_all
 conserved s e =
     let a = sound s e in
     record {
@@ -61,94 +61,94 @@ conserved s e =
       sent = omega arith;
       outmoved = omega arith;
       crossed = omega arith;
-      sent-arrived = omega arith;
-      crossed-arrived = omega arith;
+      sent_arrived = omega arith;
+      crossed_arrived = omega arith;
     }
 
 -- no queue of an allowed switch is above its capacity
-pub never-above : (s : Switch) → Sized s.queues → switchAllowed s ≡ true → Bounded s.queues
-never-above s z e = allowed-bounded s.model s.ports s.queues z (sound s e).queues
+pub never_above : (s : Switch) → Sized s.queues → switch_allowed s ≡ true → Bounded s.queues
+never_above s z e = allowed_bounded s.model s.ports s.queues z (sound s e).queues
 
-outmoved-none : (t : Bool) (q : Queues) (d : Done) → Arrived q d → ofKind (outmovedKind t) d.events ≡ 0
-unfolding outmovedKind
-outmoved-none true q d a = a.others 4 (omega arith)
-outmoved-none false q d a = a.others 3 (omega arith)
+outmoved_none : (t : Bool) (q : Queues) (d : Done) → Arrived q d → of_kind (outmoved_kind t) d.events ≡ 0
+unfolding outmoved_kind
+outmoved_none true q d a = a.others 4 (omega arith)
+outmoved_none false q d a = a.others 3 (omega arith)
 
-pub arrive-keeps : (s : Switch) (i j : ℕ) → Sized s.queues → arriveRefusal s i j ≡ 0
-    → (switchAllowed (arriveStep s i j) ≡ true) × Sized (arriveStep s i j).queues
-unfolding arriveStep advanced held heldAll heldIn heldOut heldCross packets
-arrive-keeps s i j z e =
-    let may = more-may-arrive s i j e in
+pub arrive_keeps : (s : Switch) (i j : ℕ) → Sized s.queues → arrive_refusal s i j ≡ 0
+    → (switch_allowed (arrive_step s i j) ≡ true) × Sized (arrive_step s i j).queues
+unfolding arrive_step advanced held held_all held_in held_out held_cross packets
+arrive_keeps s i j z e =
+    let may = more_may_arrive s i j e in
     let a = sound s may.0 in
     let d = arrival s.queues s.slot i j in
-    let r = arrival-arrived s.queues s.slot i j z in
+    let r = arrival_arrived s.queues s.slot i j z in
     let three = r.others 3 (omega arith) in
     let five = r.others 5 (omega arith) in
-    let out = outmoved-none (hasCrosspoints s.model) s.queues d r in
+    let out = outmoved_none (has_crosspoints s.model) s.queues d r in
     let outputs = ap (λ (l : List ℕ). total l 16) r.outlen in
     let crosspoints = ap (λ (l : List ℕ). total l 256) r.crosslen in (
-      allowed-by-parts _
+      allowed_by_parts _
           (record {
             model = a.model;
             order = a.order;
             ports = a.ports;
             speedup = a.speedup;
-            queues = queues-kept s.model s.ports s.queues z a.queues d.queues r.kept;
+            queues = queues_kept s.model s.ports s.queues z a.queues d.queues r.kept;
             few = omega arith;
             slot = a.slot;
             arrived = omega arith;
             crossed = omega arith;
             outmoved = omega arith;
           }),
-      kept-sized r.kept z,
+      kept_sized r.kept z,
     )
 
 -- the rest of the switch's slot, as its closing does it
-abbrev pub closingOf : Switch → Done
-closingOf s = closing (hasCrosspoints s.model) s.queues s.ports (turn s.order s.ports s.slot) s.speedup s.slot
+abbrev pub closing_of : Switch → Done
+closing_of s = closing (has_crosspoints s.model) s.queues s.ports (turn s.order s.ports s.slot) s.speedup s.slot
 
-pub closing-accounts : (s : Switch) → Sized s.queues → switchAllowed s ≡ true → Balanced (hasCrosspoints s.model) s.queues (closingOf s)
-closing-accounts s z e =
-    closing-balanced s.ports (sound s e).ports.1 (turn s.order s.ports s.slot) s.slot (hasCrosspoints s.model) s.queues z s.speedup
+pub closing_accounts : (s : Switch) → Sized s.queues → switch_allowed s ≡ true → Balanced (has_crosspoints s.model) s.queues (closing_of s)
+closing_accounts s z e =
+    closing_balanced s.ports (sound s e).ports.1 (turn s.order s.ports s.slot) s.slot (has_crosspoints s.model) s.queues z s.speedup
 
 -- how a balanced step changes what is held apart from the inputs: by what crossed and was sent, and in the outputs by what came out and was sent
-pub balanced-crossed : (t : Bool) {q : Queues} {d : Done} → Balanced t q d → heldOut d.queues + heldCross d.queues + ofKind 5 d.events ≡ heldOut q + heldCross q + ofKind 3 d.events
-unfolding heldOut heldCross packets
-balanced-crossed true b = omega arith
-balanced-crossed false b = omega (arith, (b.apart refl).1)
+pub balanced_crossed : (t : Bool) {q : Queues} {d : Done} → Balanced t q d → held_out d.queues + held_cross d.queues + of_kind 5 d.events ≡ held_out q + held_cross q + of_kind 3 d.events
+unfolding held_out held_cross packets
+balanced_crossed true b = omega arith
+balanced_crossed false b = omega (arith, (b.apart refl).1)
 
-pub balanced-outmoved : (t : Bool) {q : Queues} {d : Done} → Balanced t q d → heldOut d.queues + ofKind 5 d.events ≡ heldOut q + ofKind (outmovedKind t) d.events
-unfolding heldOut packets outmovedKind
-balanced-outmoved true b = omega arith
-balanced-outmoved false b = omega arith
+pub balanced_outmoved : (t : Bool) {q : Queues} {d : Done} → Balanced t q d → held_out d.queues + of_kind 5 d.events ≡ held_out q + of_kind (outmoved_kind t) d.events
+unfolding held_out packets outmoved_kind
+balanced_outmoved true b = omega arith
+balanced_outmoved false b = omega arith
 
-pub balanced-all : (t : Bool) {q : Queues} {d : Done} → Balanced t q d → heldAll d.queues + ofKind 5 d.events ≡ heldAll q
-unfolding heldAll heldIn heldOut heldCross packets
-balanced-all t b = balanced-held t b
+pub balanced_all : (t : Bool) {q : Queues} {d : Done} → Balanced t q d → held_all d.queues + of_kind 5 d.events ≡ held_all q
+unfolding held_all held_in held_out held_cross packets
+balanced_all t b = balanced_held t b
 
-pub close-keeps : (s : Switch) → Sized s.queues → switchAllowed s ≡ true → s.slot < 8192
-    → (switchAllowed (closeStep s) ≡ true) × Sized (closeStep s).queues
-unfolding closeStep advanced held
-close-keeps s z e low =
+pub close_keeps : (s : Switch) → Sized s.queues → switch_allowed s ≡ true → s.slot < 8192
+    → (switch_allowed (close_step s) ≡ true) × Sized (close_step s).queues
+unfolding close_step advanced held
+close_keeps s z e low =
     let a = sound s e in
-    let t = hasCrosspoints s.model in
-    let d = closingOf s in
-    let b = closing-accounts s z e in
-    let all = balanced-all t b in
-    let crossed = balanced-crossed t b in
-    let outmoved = balanced-outmoved t b in (
-      allowed-by-parts _
+    let t = has_crosspoints s.model in
+    let d = closing_of s in
+    let b = closing_accounts s z e in
+    let all = balanced_all t b in
+    let crossed = balanced_crossed t b in
+    let outmoved = balanced_outmoved t b in (
+      allowed_by_parts _
           (record {
             model = a.model;
             order = a.order;
             ports = a.ports;
             speedup = a.speedup;
-            queues = queues-kept s.model s.ports s.queues z a.queues d.queues b.kept;
+            queues = queues_kept s.model s.ports s.queues z a.queues d.queues b.kept;
             few = omega arith;
             slot = omega arith;
             arrived = omega arith;
             crossed = omega arith;
             outmoved = omega arith;
           }),
-      kept-sized b.kept z,
+      kept_sized b.kept z,
     )

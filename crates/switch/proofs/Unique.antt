@@ -15,8 +15,8 @@ use Rattle.switch.proofs.Switch.close.Reads as close
 use Rattle.switch.proofs.Switch.drain.Kinds as drain-kinds
 use Rattle.switch.proofs.Switch.drain.Reads as drain
 
-pub holds-one : OneAnswer 0 holds-kinds.ps holds-kinds.r holds.Post
-holds-one κs a x y d e p q =
+pub holds_one : OneAnswer 0 holds-kinds.ps holds-kinds.r holds.Post
+holds_one κs a x y d e p q =
     λ i.
     record {
       inputs = determined p.0.0 q.0.0 i;
@@ -24,17 +24,17 @@ holds-one κs a x y d e p q =
       crosspoints = determined p.0.2 q.0.2 i;
     }
 
-pub refusal-one : OneAnswer 0 refusal-kinds.ps refusal-kinds.r refusal.Post
-refusal-one κs a x y d e = determined
+pub refusal_one : OneAnswer 0 refusal-kinds.ps refusal-kinds.r refusal.Post
+refusal_one κs a x y d e = determined
 
-pub new-one : OneAnswer 1 new-kinds.ps new-kinds.r new.Post
-new-one κs a x y d e = determined
+pub new_one : OneAnswer 1 new-kinds.ps new-kinds.r new.Post
+new_one κs a x y d e = determined
 
-pub arrive-one : OneAnswer 0 arrive-kinds.ps arrive-kinds.r arrive.Post
-arrive-one κs a x y d e = determined
+pub arrive_one : OneAnswer 0 arrive-kinds.ps arrive-kinds.r arrive.Post
+arrive_one κs a x y d e = determined
 
-pub close-one : OneAnswer 0 close-kinds.ps close-kinds.r close.Post
-close-one κs a x y d e = determined
+pub close_one : OneAnswer 0 close-kinds.ps close-kinds.r close.Post
+close_one κs a x y d e = determined
 
-pub drain-one : OneAnswer 0 drain-kinds.ps drain-kinds.r drain.Post
-drain-one κs a x y d e = determined
+pub drain_one : OneAnswer 0 drain-kinds.ps drain-kinds.r drain.Post
+drain_one κs a x y d e = determined

@@ -7,33 +7,33 @@ use Rattle.switch.specs.declared.Drain.{Drain}
 use Rattle.switch.specs.declared.Drain.TheVariants.{Empty, NotEmpty, Refused}
 use Rattle.switch.specs.declared.Drained.{Drained}
 use Rattle.switch.specs.Switch.{held}
-use Rattle.switch.specs.Allowed.{switchAllowed}
-use Rattle.switch.specs.Steps.{closeStep}
+use Rattle.switch.specs.Allowed.{switch_allowed}
+use Rattle.switch.specs.Steps.{close_step}
 
 -- 13, 16, 15
-unfoldable pub drainRefusal : Switch → ℕ → ℕ
-drainRefusal s limit =
-    unless (switchAllowed s) 13
+unfoldable pub drain_refusal : Switch → ℕ → ℕ
+drain_refusal s limit =
+    unless (switch_allowed s) 13
     ⨟ unless (leb limit 4096) 16
     ⨟ unless (leb (s.slot + limit) 8192) 15
 
 -- the switch after n closings
 unfoldable pub closings : Switch → ℕ → Switch
 closings s zero = s
-closings s (suc n) = closeStep (closings s n)
+closings s (suc n) = close_step (closings s n)
 
 -- the least number of closings, up to the limit, after which nothing is held; limit + 1 where there is none
 unfoldable pub quiet : Switch → ℕ → ℕ
 quiet s limit = lowest (λ n. eqb (held (closings s n)) 0) (suc limit)
 
 -- empty, with the count of quiet slots; otherwise not empty, with count equal to the limit. The switch is the one after exactly that many closings
-unfoldable pub drainedAs : Bool → Switch → ℕ → ℕ → Drained
-drainedAs true s limit n = record { answer = Empty n; switch = closings s n }
-drainedAs false s limit n = record { answer = NotEmpty limit; switch = closings s limit }
+unfoldable pub drained_as : Bool → Switch → ℕ → ℕ → Drained
+drained_as true s limit n = record { answer = Empty n; switch = closings s n }
+drained_as false s limit n = record { answer = NotEmpty limit; switch = closings s limit }
 
-unfoldable pub drainAnswer : ℕ → Switch → ℕ → Drained
-drainAnswer zero s limit = let n = quiet s limit in drainedAs (leb n limit) s limit n
-drainAnswer (suc r) s limit = record { answer = Refused (suc r); switch = s }
+unfoldable pub drain_answer : ℕ → Switch → ℕ → Drained
+drain_answer zero s limit = let n = quiet s limit in drained_as (leb n limit) s limit n
+drain_answer (suc r) s limit = record { answer = Refused (suc r); switch = s }
 
 unfoldable pub drain : Switch → ℕ → Drained
-drain s limit = drainAnswer (drainRefusal s limit) s limit
+drain s limit = drain_answer (drain_refusal s limit) s limit

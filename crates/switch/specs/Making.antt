@@ -1,32 +1,32 @@
 -- A new switch (document 01, "One slot"): from a trace's header and capacities, or refused by 1 to 11 with every number in it 0. It has slot number 0 and all
 -- places start empty.
 use Rattle.std.specs.Prelude.{ℕ, zero, suc, ◌+◌, ◌*◌, ◌/◌, ◌%◌, ◌&&◌, cond, List, replicate, ltb}
-use Rattle.base.specs.Below.{listBelow}
+use Rattle.base.specs.Below.{list_below}
 use Rattle.layout.specs.declared.Header.{Header}
-use Rattle.layout.specs.Header.{hasCrosspoints}
-use Rattle.trace.specs.Reading.{headerOf, capacity, reading}
+use Rattle.layout.specs.Header.{has_crosspoints}
+use Rattle.trace.specs.Reading.{header_of, capacity, reading}
 use Rattle.queues.specs.declared.Queues.{Queues}
 use Rattle.switch.specs.declared.Switch.{Switch}
 use Rattle.switch.specs.declared.Made.{Made}
-use Rattle.switch.specs.Allowed.{usedPair}
+use Rattle.switch.specs.Allowed.{used_pair}
 
 -- the capacities in the file's order: N × N input queues, input by input, then N output queues, then the crosspoints
-unfoldable pub capacityOfPair : List ℕ → ℕ → ℕ → ℕ → ℕ
-capacityOfPair s ports from k = capacity s (from + (k / 16 * ports + k % 16))
+unfoldable pub capacity_of_pair : List ℕ → ℕ → ℕ → ℕ → ℕ
+capacity_of_pair s ports from k = capacity s (from + (k / 16 * ports + k % 16))
 
-unfoldable pub inputCapacities : List ℕ → ℕ → List ℕ
-inputCapacities s ports = listBelow (λ k. cond (usedPair ports k) (capacityOfPair s ports 0 k) 0) 256
+unfoldable pub input_capacities : List ℕ → ℕ → List ℕ
+input_capacities s ports = list_below (λ k. cond (used_pair ports k) (capacity_of_pair s ports 0 k) 0) 256
 
-unfoldable pub outputCapacities : List ℕ → ℕ → List ℕ
-outputCapacities s ports = listBelow (λ j. cond (ltb j ports) (capacity s (ports * ports + j)) 0) 16
+unfoldable pub output_capacities : List ℕ → ℕ → List ℕ
+output_capacities s ports = list_below (λ j. cond (ltb j ports) (capacity s (ports * ports + j)) 0) 16
 
-unfoldable pub crosspointCapacities : List ℕ → ℕ → ℕ → List ℕ
-crosspointCapacities s model ports =
-    listBelow (λ k. cond (hasCrosspoints model && usedPair ports k) (capacityOfPair s ports (ports * ports + ports) k) 0) 256
+unfoldable pub crosspoint_capacities : List ℕ → ℕ → ℕ → List ℕ
+crosspoint_capacities s model ports =
+    list_below (λ k. cond (has_crosspoints model && used_pair ports k) (capacity_of_pair s ports (ports * ports + ports) k) 0) 256
 
 -- queues with these capacities, all empty
-unfoldable pub emptyQueues : List ℕ → List ℕ → List ℕ → Queues
-emptyQueues incap outcap crosscap =
+unfoldable pub empty_queues : List ℕ → List ℕ → List ℕ → Queues
+empty_queues incap outcap crosscap =
     record {
       incap = incap;
       outcap = outcap;
@@ -55,17 +55,17 @@ unused model order ports speedup q =
 
 unfoldable pub fresh : List ℕ → Switch
 fresh s =
-    let h = headerOf s in
+    let h = header_of s in
     unused h.model h.order h.ports h.speedup
-    (emptyQueues (inputCapacities s h.ports) (outputCapacities s h.ports) (crosspointCapacities s h.model h.ports))
+    (empty_queues (input_capacities s h.ports) (output_capacities s h.ports) (crosspoint_capacities s h.model h.ports))
 
 -- every number in it 0
 unfoldable pub nought : Switch
-nought = unused 0 0 0 0 (emptyQueues (replicate 256 0) (replicate 16 0) (replicate 256 0))
+nought = unused 0 0 0 0 (empty_queues (replicate 256 0) (replicate 16 0) (replicate 256 0))
 
-unfoldable pub madeAs : ℕ → List ℕ → Made
-madeAs zero s = record { refusal = 0; switch = fresh s }
-madeAs (suc n) s = record { refusal = suc n; switch = nought }
+unfoldable pub made_as : ℕ → List ℕ → Made
+made_as zero s = record { refusal = 0; switch = fresh s }
+made_as (suc n) s = record { refusal = suc n; switch = nought }
 
 unfoldable pub made : List ℕ → Made
-made s = madeAs (reading s) s
+made s = made_as (reading s) s

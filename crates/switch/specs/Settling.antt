@@ -2,17 +2,17 @@
 use Rattle.std.specs.Prelude.{ℕ, ◌+◌, ◌-◌}
 use Rattle.queues.specs.declared.Queues.{Queues}
 use Rattle.switch.specs.declared.Switch.{Switch}
-use Rattle.switch.specs.Switch.{heldOut, heldCross, heldAll}
+use Rattle.switch.specs.Switch.{held_out, held_cross, held_all}
 
 -- what was sent, moved out and crossed, where q is what is left
-abbrev pub sentOf : Switch → Queues → ℕ
-sentOf s q = s.arrived - s.dropped - heldAll q
+abbrev pub sent_of : Switch → Queues → ℕ
+sent_of s q = s.arrived - s.dropped - held_all q
 
-abbrev pub outmovedOf : Switch → Queues → ℕ
-outmovedOf s q = sentOf s q + heldOut q
+abbrev pub outmoved_of : Switch → Queues → ℕ
+outmoved_of s q = sent_of s q + held_out q
 
-abbrev pub crossedOf : Switch → Queues → ℕ
-crossedOf s q = outmovedOf s q + heldCross q
+abbrev pub crossed_of : Switch → Queues → ℕ
+crossed_of s q = outmoved_of s q + held_cross q
 
 -- the switch after a closing that leaves q
 abbrev pub settled : Switch → Queues → Switch
@@ -25,8 +25,8 @@ settled s q =
       slot = s.slot + 1;
       arrived = s.arrived;
       dropped = s.dropped;
-      crossed = crossedOf s q;
-      outmoved = outmovedOf s q;
-      sent = sentOf s q;
+      crossed = crossed_of s q;
+      outmoved = outmoved_of s q;
+      sent = sent_of s q;
       queues = q;
     }

@@ -1,20 +1,20 @@
 // Which switch values are allowed (document 01, refusal 13).
 ghost use Rattle.std.specs.Prelude.{◌≡◌, ◌&&◌, ◌<◌, ◌+◌, get_or, ltb, eqb};
 ghost use Rattle.base.specs.Below.{all_below};
-ghost use Rattle.switch.specs.Allowed.{usedPair, queueAllowed, queuesAllowed, countsAgree, switchAllowed};
+ghost use Rattle.switch.specs.Allowed.{used_pair, queue_allowed, queues_allowed, counts_agree, switch_allowed};
 
 use crate::{Packets, Switch};
 use queues::Queues;
 
 // Whether N ports use place k of those for pairs.
-pub(crate) fn used_pair(ports: u32, k: usize) -> bool
-    ensures { result ≡ usedPair ports k }
+pub(crate) fn used_pair_lem(ports: u32, k: usize) -> bool
+    ensures { result ≡ used_pair ports k }
 {
     base::both(k / 16 < ports as usize, k % 16 < ports as usize)
 }
 
 fn queue_allowed(used: bool, cap: u32, len: u32) -> bool
-    ensures { result ≡ queueAllowed used cap len }
+    ensures { result ≡ queue_allowed used cap len }
 {
     if used {
         return base::both(layout::capacity_allowed(cap), len <= cap);
@@ -24,11 +24,11 @@ fn queue_allowed(used: bool, cap: u32, len: u32) -> bool
 
 // Every place for pairs, of input queues or of crosspoints.
 fn pairs_allowed(kind: bool, ports: u32, cap: &[u32; 256], len: &[u32; 256]) -> bool
-    ensures { result ≡ all_below (λ k. queueAllowed (kind && usedPair ports k) (get_or cap.now k 0) (get_or len.now k 0)) 256 }
+    ensures { result ≡ all_below (λ k. queue_allowed (kind && used_pair ports k) (get_or cap.now k 0) (get_or len.now k 0)) 256 }
 {
     let mut k: usize = 0;
     while k < 256 {
-        if !queue_allowed(base::both(kind, used_pair(ports, k)), cap[k], len[k]) {
+        if !queue_allowed(base::both(kind, used_pair_lem(ports, k)), cap[k], len[k]) {
             return false;
         }
         k += 1;
@@ -37,7 +37,7 @@ fn pairs_allowed(kind: bool, ports: u32, cap: &[u32; 256], len: &[u32; 256]) -> 
 }
 
 fn outputs_allowed(ports: u32, cap: &[u32; 16], len: &[u32; 16]) -> bool
-    ensures { result ≡ all_below (λ j. queueAllowed (ltb j ports) (get_or cap.now j 0) (get_or len.now j 0)) 16 }
+    ensures { result ≡ all_below (λ j. queue_allowed (ltb j ports) (get_or cap.now j 0) (get_or len.now j 0)) 16 }
 {
     let mut j: usize = 0;
     while j < 16 {
@@ -50,7 +50,7 @@ fn outputs_allowed(ports: u32, cap: &[u32; 16], len: &[u32; 16]) -> bool
 }
 
 fn queues_allowed(model: u32, ports: u32, q: Queues) -> bool
-    ensures { result ≡ queuesAllowed model ports q }
+    ensures { result ≡ queues_allowed model ports q }
 {
     let incap = q.incap;
     let inlen = q.inlen;
@@ -84,7 +84,7 @@ fn sums_agree(
 }
 
 fn counts_agree(s: Switch) -> bool
-    ensures { result ≡ countsAgree s }
+    ensures { result ≡ counts_agree s }
 {
     let q = s.queues;
     sums_agree(
@@ -98,7 +98,7 @@ fn counts_agree(s: Switch) -> bool
 }
 
 pub(crate) fn allowed(s: Switch) -> bool
-    ensures { result ≡ switchAllowed s }
+    ensures { result ≡ switch_allowed s }
 {
     let q = s.queues;
     let model = layout::model_allowed(s.model);

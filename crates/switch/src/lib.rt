@@ -4,15 +4,15 @@ mod make; // make.rt: the capacities of a new switch, out of a trace
 
 ghost use Rattle.std.specs.Prelude.{◌≡◌, true, ◌+◌, ◌<◌, ◌≤◌, get_or, eqb};
 ghost use Rattle.base.specs.Refusal.{unless};
-ghost use Rattle.layout.specs.Header.{hasCrosspoints};
+ghost use Rattle.layout.specs.Header.{has_crosspoints};
 ghost use Rattle.queues.specs.Queues.{more, lengths};
 ghost use Rattle.queues.specs.Turn.{turn};
 ghost use Rattle.queues.specs.Slot.{closing};
-ghost use Rattle.switch.specs.Switch.{heldIn, heldOut, heldCross, heldAll, held};
-ghost use Rattle.switch.specs.Allowed.{switchAllowed};
+ghost use Rattle.switch.specs.Switch.{held_in, held_out, held_cross, held_all, held};
+ghost use Rattle.switch.specs.Allowed.{switch_allowed};
 ghost use Rattle.switch.specs.Settling.{settled};
-ghost use Rattle.switch.specs.Draining.{drainRefusal, drain};
-ghost use Rattle.switch.specs.Steps.{arriveRefusal, arriveAnswer, arrive, closeRefusal, closeStep, close};
+ghost use Rattle.switch.specs.Draining.{drain_refusal, drain};
+ghost use Rattle.switch.specs.Steps.{arrive_refusal, arrive_answer, arrive, close_refusal, close_step, close};
 ghost use Rattle.switch.specs.Making.{made};
 
 use queues::Queues;
@@ -83,7 +83,7 @@ pub struct Packets {
 }
 
 pub fn holds(q: Queues) -> Packets
-    ensures inputs_value { (result.inputs ≡ heldIn q) × (result.outputs ≡ heldOut q) × (result.crosspoints ≡ heldCross q) }
+    ensures inputs_value { (result.inputs ≡ held_in q) × (result.outputs ≡ held_out q) × (result.crosspoints ≡ held_cross q) }
     ensures inputs_bound { (result.inputs < 281474976710656) × (result.outputs < 281474976710656) × (result.crosspoints < 281474976710656) }
 {
     let inlen = q.inlen;
@@ -98,14 +98,14 @@ pub fn holds(q: Queues) -> Packets
 
 // Refusal 13 of a switch value that is not allowed, otherwise 0.
 pub fn refusal(s: Switch) -> u32
-    ensures { result ≡ unless (switchAllowed s) 13 }
+    ensures { result ≡ unless (switch_allowed s) 13 }
 {
     base::unless(judge::allowed(s), 13)
 }
 
 // The refusals of an arrival: 13, 11, 14.
 fn arrive_refusal(s: Switch, input: u32, output: u32) -> u32
-    ensures { result ≡ arriveRefusal s input output }
+    ensures { result ≡ arrive_refusal s input output }
 {
     let value = refusal(s);
     let ports = base::unless(base::both(input < s.ports, output < s.ports), 11);
@@ -127,8 +127,8 @@ fn joined(q: Queues, k: usize) -> Queues
 
 // One arrival that is not refused.
 fn take(s: Switch, input: u32, output: u32) -> Arrived
-    requires { arriveRefusal s input output ≡ 0 }
-    ensures { result ≡ arriveAnswer 0 s input output }
+    requires { arrive_refusal s input output ≡ 0 }
+    ensures { result ≡ arrive_answer 0 s input output }
 {
     let k = (input as usize) * 16 + (output as usize);
     let q = s.queues;
@@ -152,7 +152,7 @@ fn take(s: Switch, input: u32, output: u32) -> Arrived
 
 // The switch after a closing that left these queues: its counts are found from what is held.
 fn settle(s: Switch, q: Queues) -> Switch
-    requires { (heldAll q + s.dropped ≤ s.arrived) × (s.arrived ≤ 4096) × (s.slot ≤ 8192) }
+    requires { (held_all q + s.dropped ≤ s.arrived) × (s.arrived ≤ 4096) × (s.slot ≤ 8192) }
     ensures { result ≡ settled s q }
 {
     let h = holds(q);
@@ -172,7 +172,7 @@ fn settle(s: Switch, q: Queues) -> Switch
 // All cycles and the sendings of a slot.
 fn closed_queues(model: u32, order: u32, ports: u32, speedup: u32, slot: u32, q: Queues) -> Queues
     requires { ports ≤ 16 }
-    ensures { result ≡ (closing (hasCrosspoints model) q ports (turn order ports slot) speedup slot).queues }
+    ensures { result ≡ (closing (has_crosspoints model) q ports (turn order ports slot) speedup slot).queues }
 {
     let outcap = q.outcap;
     let crosscap = q.crosscap;
@@ -204,8 +204,8 @@ fn closed_queues(model: u32, order: u32, ports: u32, speedup: u32, slot: u32, q:
 
 // One closing that is not refused.
 fn step(s: Switch) -> Switch
-    requires { switchAllowed s ≡ true }
-    ensures { result ≡ closeStep s }
+    requires { switch_allowed s ≡ true }
+    ensures { result ≡ close_step s }
 {
     let q = s.queues;
     settle(
@@ -216,7 +216,7 @@ fn step(s: Switch) -> Switch
 
 // The refusals of a closing: 13, 15.
 fn close_refusal(s: Switch) -> u32
-    ensures { result ≡ closeRefusal s }
+    ensures { result ≡ close_refusal s }
 {
     let value = refusal(s);
     let slot = base::unless(s.slot < 8192, 15);
@@ -225,7 +225,7 @@ fn close_refusal(s: Switch) -> u32
 
 // The refusals of a drain: 13, 16, 15.
 fn drain_refusal(s: Switch, limit: u32) -> u32
-    ensures { result ≡ drainRefusal s limit }
+    ensures { result ≡ drain_refusal s limit }
 {
     let value = refusal(s);
     let far = base::unless(limit <= 4096, 16);
@@ -244,7 +244,7 @@ fn is_empty(s: Switch) -> bool
 
 // Closings until nothing is held, at most `limit` of them.
 fn quiet_slots(s: Switch, limit: u32) -> Drained
-    requires { drainRefusal s limit ≡ 0 }
+    requires { drain_refusal s limit ≡ 0 }
     ensures { result ≡ drain s limit }
 {
     let mut now = s;

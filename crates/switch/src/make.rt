@@ -1,9 +1,9 @@
 // The capacities of a new switch, out of a trace (document 01, "The trace file").
 ghost use Rattle.std.specs.Prelude.{◌≡◌, ◌&&◌, cond, ◌≤◌, ◌+◌, ◌*◌, ltb};
-ghost use Rattle.base.specs.Below.{listBelow};
-ghost use Rattle.trace.specs.Reading.{headerOf, capacity, reading};
-ghost use Rattle.switch.specs.Allowed.{usedPair};
-ghost use Rattle.switch.specs.Making.{capacityOfPair, outputCapacities, crosspointCapacities, fresh, nought, emptyQueues, unused};
+ghost use Rattle.base.specs.Below.{list_below};
+ghost use Rattle.trace.specs.Reading.{header_of, capacity, reading};
+ghost use Rattle.switch.specs.Allowed.{used_pair};
+ghost use Rattle.switch.specs.Making.{capacity_of_pair, output_capacities, crosspoint_capacities, fresh, nought, empty_queues, unused};
 
 use crate::Switch;
 use layout::Header;
@@ -12,9 +12,9 @@ use queues::Queues;
 // The capacity at place k of those for pairs, where the file has them from entry `from` on.
 fn pair_capacity(trace: &[u8], ports: u32, from: usize, k: usize) -> u32
     requires { (ports ≤ 16) × (from ≤ 4096) × (k ≤ 256) }
-    ensures { result ≡ cond (usedPair ports k) (capacityOfPair trace.now ports from k) 0 }
+    ensures { result ≡ cond (used_pair ports k) (capacity_of_pair trace.now ports from k) 0 }
 {
-    if crate::judge::used_pair(ports, k) {
+    if crate::judge::used_pair_lem(ports, k) {
         return trace::capacity(trace, from + (k / 16 * (ports as usize) + k % 16));
     }
     0
@@ -22,7 +22,7 @@ fn pair_capacity(trace: &[u8], ports: u32, from: usize, k: usize) -> u32
 
 fn pair_capacities(trace: &[u8], ports: u32, from: usize) -> [u32; 256]
     requires { (ports ≤ 16) × (from ≤ 4096) }
-    ensures { result ≡ listBelow (λ k. cond (usedPair ports k) (capacityOfPair trace.now ports from k) 0) 256 }
+    ensures { result ≡ list_below (λ k. cond (used_pair ports k) (capacity_of_pair trace.now ports from k) 0) 256 }
 {
     let mut places = [0u32; 256];
     let mut k: usize = 0;
@@ -46,7 +46,7 @@ fn output_capacity(trace: &[u8], ports: u32, j: usize) -> u32
 
 fn output_capacities(trace: &[u8], ports: u32) -> [u32; 16]
     requires { ports ≤ 16 }
-    ensures { result ≡ outputCapacities trace.now ports }
+    ensures { result ≡ output_capacities trace.now ports }
 {
     let mut places = [0u32; 16];
     let mut j: usize = 0;
@@ -59,7 +59,7 @@ fn output_capacities(trace: &[u8], ports: u32) -> [u32; 16]
 
 fn crosspoint_capacities(trace: &[u8], model: u32, ports: u32) -> [u32; 256]
     requires { ports ≤ 16 }
-    ensures { result ≡ crosspointCapacities trace.now model ports }
+    ensures { result ≡ crosspoint_capacities trace.now model ports }
 {
     let n = ports as usize;
     if model == 2 {
@@ -69,7 +69,7 @@ fn crosspoint_capacities(trace: &[u8], model: u32, ports: u32) -> [u32; 256]
 }
 
 fn empty_queues(incap: [u32; 256], outcap: [u32; 16], crosscap: [u32; 256]) -> Queues
-    ensures { result ≡ emptyQueues incap outcap crosscap }
+    ensures { result ≡ empty_queues incap outcap crosscap }
 {
     Queues {
         incap,
@@ -106,7 +106,7 @@ pub(crate) fn nought() -> Switch
 }
 
 pub(crate) fn fresh(trace: &[u8], header: Header) -> Switch
-    requires { (reading trace.now ≡ 0) × (header ≡ headerOf trace.now) }
+    requires { (reading trace.now ≡ 0) × (header ≡ header_of trace.now) }
     ensures { result ≡ fresh trace.now }
 {
     let n = header.ports;

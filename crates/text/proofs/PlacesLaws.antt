@@ -9,36 +9,36 @@ use mathlib.Core.Logic.{⊎_elim}
 use mathlib.Core.List.{List}
 use lib.Dec.{ltb}
 use borrow.Author.Tests.{lt-ltb, le-ltb, ltb-true}
-use Rattle.base.proofs.Order.{le-or-lt}
-use Rattle.base.proofs.Lowest.{lowest-found}
+use Rattle.base.proofs.Order.{le_or_lt}
+use Rattle.base.proofs.Lowest.{lowest_found}
 use Rattle.io.specs.Digits.{last_digits, IsDigitCount}
 use Rattle.text.specs.Text.{places, decimal, hex}
 
 -- j digits that hold n, no fewer than asked for, are no fewer than the fewest
-no-fewer : (b least n j k : ℕ) → 0 < b → least ≤ j → n < b ^ j → IsDigitCount b least n k → k ≤ j
-no-fewer b least n j k pos asked holds f =
+no_fewer : (b least n j k : ℕ) → 0 < b → least ≤ j → n < b ^ j → IsDigitCount b least n k → k ≤ j
+no_fewer b least n j k pos asked holds f =
     ⊎_elim
     (λ h. h)
     (λ (h : j < k).
     let low : b ^ (k - 1) ≤ n = f.2 (omega arith) in
     let up : b ^ j ≤ b ^ (k - 1) = pow-le-pow_right pos (omega arith) in
     absurd (omega arith))
-    (le-or-lt k j)
+    (le_or_lt k j)
 
-pub fewest-one : (b least n j k : ℕ) → 0 < b → IsDigitCount b least n j → IsDigitCount b least n k → j ≡ k
-fewest-one b least n j k pos f g =
-    let below = no-fewer b least n j k pos f.0 f.1 g in
-    let above = no-fewer b least n k j pos g.0 g.1 f in
+pub fewest_one : (b least n j k : ℕ) → 0 < b → IsDigitCount b least n j → IsDigitCount b least n k → j ≡ k
+fewest_one b least n j k pos f g =
+    let below = no_fewer b least n j k pos f.0 f.1 g in
+    let above = no_fewer b least n k j pos g.0 g.1 f in
     omega arith
 
 -- decimal: the places are the fewest digits, at least one
-decimal-places : (n k : ℕ) → n < 4294967296 → IsDigitCount 10 1 n k → k ≡ places n
+decimal_places : (n k : ℕ) → n < 4294967296 → IsDigitCount 10 1 n k → k ≡ places n
 unfolding places
-decimal-places n zero small f = absurd (omega arith)
-decimal-places n (suc k) small f =
-    let few : suc k ≤ 10 = no-fewer 10 1 n 10 (suc k) (omega arith) (omega arith) (omega arith) f in
+decimal_places n zero small f = absurd (omega arith)
+decimal_places n (suc k) small f =
+    let few : suc k ≤ 10 = no_fewer 10 1 n 10 (suc k) (omega arith) (omega arith) (omega arith) f in
     let found =
-    lowest-found (λ j. ltb n (10 ^ suc j)) 20 k (omega arith) (lt-ltb n (10 ^ suc k) f.1)
+    lowest_found (λ j. ltb n (10 ^ suc j)) 20 k (omega arith) (lt-ltb n (10 ^ suc k) f.1)
     (λ m h.
     let up : 10 ^ suc m ≤ 10 ^ k = pow-le-pow_right (omega arith) (omega arith) in
     let low : 10 ^ (suc k - 1) ≤ n = f.2 (omega arith) in
@@ -47,12 +47,12 @@ decimal-places n (suc k) small f =
     in
     sym (ap (λ (i : ℕ). i + 1) found ∙ add-one k)
 
-pub decimal-is : (n k : ℕ) → n < 4294967296 → IsDigitCount 10 1 n k → last_digits 10 k n ≡ decimal n
+pub decimal_is : (n k : ℕ) → n < 4294967296 → IsDigitCount 10 1 n k → last_digits 10 k n ≡ decimal n
 unfolding decimal
-decimal-is n k small f = ap (λ (i : ℕ). last_digits 10 i n) (decimal-places n k small f)
+decimal_is n k small f = ap (λ (i : ℕ). last_digits 10 i n) (decimal_places n k small f)
 
 -- hexadecimal: eight digits hold 32 bits
-pub hex-is : (w k : ℕ) → w < 4294967296 → IsDigitCount 16 8 w k → last_digits 16 k w ≡ hex w
+pub hex_is : (w k : ℕ) → w < 4294967296 → IsDigitCount 16 8 w k → last_digits 16 k w ≡ hex w
 unfolding hex
-hex-is w k small f =
-    ap (λ (i : ℕ). last_digits 16 i w) (fewest-one 16 8 w k 8 (omega arith) f (omega arith, small, λ h. absurd (omega arith)))
+hex_is w k small f =
+    ap (λ (i : ℕ). last_digits 16 i w) (fewest_one 16 8 w k 8 (omega arith) f (omega arith, small, λ h. absurd (omega arith)))

@@ -16,16 +16,16 @@ use Rattle.text.proofs.line.Reads as line
 
 -- what `Written` says fixes the place and the page
 pub written_one : {page text after after' : List ℕ} {at next next' : ℕ} → Written page at text after next → Written page at text after' next' → ◌≡◌ {A = ℕ × List ℕ} (next, after) (next', after')
-written_one a b = λ i. (determined a.of-next b.of-next i, determined a.of-page b.of-page i)
+written_one a b = λ i. (determined a.of_next b.of_next i, determined a.of_page b.of_page i)
 
 pub put_one : OneShown 2 put-kinds.ps put-kinds.r {A = λ κs. ℕ × List ℕ} (λ κs x d. (x, d.0.now)) put.Post
 put_one κs a x y d e = written_one
 
-pub decimal-one : OneShown 1 decimal-kinds.ps decimal-kinds.r {A = λ κs. ℕ × List ℕ} (λ κs x d. (x, d.0.now)) decimal.Post
-decimal-one κs a x y d e = written_one
+pub decimal_one : OneShown 1 decimal-kinds.ps decimal-kinds.r {A = λ κs. ℕ × List ℕ} (λ κs x d. (x, d.0.now)) decimal.Post
+decimal_one κs a x y d e = written_one
 
-pub hex-one : OneShown 1 hex-kinds.ps hex-kinds.r {A = λ κs. ℕ × List ℕ} (λ κs x d. (x, d.0.now)) hex.Post
-hex-one κs a x y d e = written_one
+pub hex_one : OneShown 1 hex-kinds.ps hex-kinds.r {A = λ κs. ℕ × List ℕ} (λ κs x d. (x, d.0.now)) hex.Post
+hex_one κs a x y d e = written_one
 
-pub line-one : OneShown 2 line-kinds.ps line-kinds.r {A = λ κs. ℕ × List ℕ} (λ κs x d. (x, d.0.now)) line.Post
-line-one κs a x y d e = written_one
+pub line_one : OneShown 2 line-kinds.ps line-kinds.r {A = λ κs. ℕ × List ℕ} (λ κs x d. (x, d.0.now)) line.Post
+line_one κs a x y d e = written_one

@@ -9,8 +9,8 @@ use Rattle.queues.specs.Log.{logged, onward}
 
 -- `text` stands on `page` from the place `at` on, and `next` is the place behind it
 pub record Written (page : List ℕ) (at : ℕ) (text after : List ℕ) (next : ℕ) : Type 0 where
-  pub of-page : after ≡ logged page at text
-  pub of-next : next ≡ onward (length page) at (length text)
+  pub of_page : after ≡ logged page at text
+  pub of_next : next ≡ onward (length page) at (length text)
 
 -- a quoted text as bytes, one for each character
 unfoldable pub ascii : String → List ℕ

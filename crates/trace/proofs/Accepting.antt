@@ -9,27 +9,27 @@ use mathlib.Core.List.{List}
 use lib.ListN.{length}
 use lib.Dec.{eqb}
 use borrow.Author.Tests.{eqb-true, eq-eqb}
-use Rattle.base.proofs.Refusal.{chain-zero, passed}
+use Rattle.base.proofs.Refusal.{chain_zero, passed}
 use Rattle.layout.specs.declared.Header.{Header}
 use Rattle.layout.specs.declared.Places.{Places}
-use Rattle.layout.specs.Header.{modelAllowed, headerRefusal, places_of, total_of, arrivalsAt, slotCountsAt}
-use Rattle.layout.specs.Tables.{tablesRefusal}
-use Rattle.trace.specs.Reading.{headerOf, capacity, slotCount, portByte, placesRight, bodyRefusal, reading}
-use Rattle.trace.proofs.ReadingLaws.{Right, nothing-refused, accepted}
+use Rattle.layout.specs.Header.{model_allowed, header_refusal, places_of, total_of, arrivals_at, slot_counts_at}
+use Rattle.layout.specs.Tables.{tables_refusal}
+use Rattle.trace.specs.Reading.{header_of, capacity, slot_count, port_byte, places_right, body_refusal, reading}
+use Rattle.trace.proofs.ReadingLaws.{Right, nothing_refused, accepted}
 
 -- a model is 1 or 2
-pub model-small : (m : ℕ) → modelAllowed m ≡ true → m ≤ 2
-unfolding modelAllowed
-model-small m e = go (eqb m 1) refl e
+pub model_small : (m : ℕ) → model_allowed m ≡ true → m ≤ 2
+unfolding model_allowed
+model_small m e = go (eqb m 1) refl e
   where
     go : (b : Bool) → eqb m 1 ≡ b → (b || eqb m 2) ≡ true → m ≤ 2
     go true one e = omega (arith, eqb-true m 1 one)
     go false one e = omega (arith, eqb-true m 2 e)
 
 -- the other way round from `right`
-pub places-right : (s : List ℕ) (p : Places) → Right s p → placesRight s p ≡ true
-unfolding placesRight
-places-right s p r =
+pub places_right_lem : (s : List ℕ) (p : Places) → Right s p → places_right s p ≡ true
+unfolding places_right
+places_right_lem s p r =
     (and-eq-true_iff _ _).1 (
       eq-eqb _ _ r.capacities,
       (and-eq-true_iff _ _).1 (
@@ -39,14 +39,14 @@ places-right s p r =
       ),
     )
 
-pub accepted-when : (s : List ℕ) (h : Header) → headerOf s ≡ h → headerRefusal h ≡ 0 → Right s (places_of h) → tablesRefusal h (capacity s) (slotCount s) (portByte s) ≡ 0 → reading s ≡ 0
-unfolding bodyRefusal
-accepted-when s h e z r t =
-    let long : 40 ≤ length s = unfold places_of total_of arrivalsAt slotCountsAt in omega (arith, r.length) in
-    let body : bodyRefusal s h ≡ 0 = passed _ 8 _ (places-right s (places_of h) r) ∙ t in
-    (accepted s h (nothing-refused s h (sym e) long z body)).0
+pub accepted_when : (s : List ℕ) (h : Header) → header_of s ≡ h → header_refusal h ≡ 0 → Right s (places_of h) → tables_refusal h (capacity s) (slot_count s) (port_byte s) ≡ 0 → reading s ≡ 0
+unfolding body_refusal
+accepted_when s h e z r t =
+    let long : 40 ≤ length s = unfold places_of total_of arrivals_at slot_counts_at in omega (arith, r.length) in
+    let body : body_refusal s h ≡ 0 = passed _ 8 _ (places_right_lem s (places_of h) r) ∙ t in
+    (accepted s h (nothing_refused s h (sym e) long z body)).0
 
 -- nothing refuses an accepted trace's tables
-pub tables-passed : (s : List ℕ) → reading s ≡ 0 → tablesRefusal (headerOf s) (capacity s) (slotCount s) (portByte s) ≡ 0
-unfolding reading bodyRefusal
-tables-passed s e = (chain-zero _ _ (chain-zero _ _ (chain-zero _ _ e).1).1).1
+pub tables_passed : (s : List ℕ) → reading s ≡ 0 → tables_refusal (header_of s) (capacity s) (slot_count s) (port_byte s) ≡ 0
+unfolding reading body_refusal
+tables_passed s e = (chain_zero _ _ (chain_zero _ _ (chain_zero _ _ e).1).1).1

@@ -19,26 +19,26 @@ use Rattle.trace.proofs.stands.Reads as stands
 use Rattle.trace.proofs.slot_part.Kinds as slot-part-kinds
 use Rattle.trace.proofs.slot_part.Reads as slot-part
 
-pub examine-one : OneAnswer 1 examine-kinds.ps examine-kinds.r examine.Post
-examine-one κs a x y d e = determined
+pub examine_one : OneAnswer 1 examine-kinds.ps examine-kinds.r examine.Post
+examine_one κs a x y d e = determined
 
-pub head-one : OneAnswer 1 head-kinds.ps head-kinds.r head.Post
-head-one κs a x y d e = determined
+pub head_one : OneAnswer 1 head-kinds.ps head-kinds.r head.Post
+head_one κs a x y d e = determined
 
-pub capacity-one : OneAnswer 1 capacity-kinds.ps capacity-kinds.r capacity.Post
-capacity-one κs a x y d e = determined
+pub capacity_one : OneAnswer 1 capacity-kinds.ps capacity-kinds.r capacity.Post
+capacity_one κs a x y d e = determined
 
-pub slot-count-one : OneAnswer 1 slot-count-kinds.ps slot-count-kinds.r slot-count.Post
-slot-count-one κs a x y d e = determined
+pub slot_count_one : OneAnswer 1 slot-count-kinds.ps slot-count-kinds.r slot-count.Post
+slot_count_one κs a x y d e = determined
 
-pub arrival-one : OneAnswer 1 arrival-kinds.ps arrival-kinds.r arrival.Post
-arrival-one κs a x y d e = determined
+pub arrival_one : OneAnswer 1 arrival-kinds.ps arrival-kinds.r arrival.Post
+arrival_one κs a x y d e = determined
 
-pub part-from-one : OneShown 1 part-from-kinds.ps part-from-kinds.r (λ κs x d. x.now) part-from.Post
-part-from-one κs a x y d e = determined
+pub part_from_one : OneShown 1 part-from-kinds.ps part-from-kinds.r (λ κs x d. x.now) part-from.Post
+part_from_one κs a x y d e = determined
 
 pub stands_one : OneAnswer 1 stands-kinds.ps stands-kinds.r stands.Post
 stands_one κs a x y d e = determined
 
-pub slot-part-one : OneShown 1 slot-part-kinds.ps slot-part-kinds.r (λ κs x d. x.now) slot-part.Post
-slot-part-one κs a x y d e = determined
+pub slot_part_one : OneShown 1 slot-part-kinds.ps slot-part-kinds.r (λ κs x d. x.now) slot-part.Post
+slot_part_one κs a x y d e = determined

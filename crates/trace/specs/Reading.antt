@@ -6,8 +6,8 @@ use Rattle.layout.specs.declared.Header.{Header}
 use Rattle.trace.specs.declared.Verdict.{Verdict}
 use Rattle.trace.specs.declared.Verdict.TheVariants.{Accepted, Refused}
 use Rattle.layout.specs.declared.Places.{Places}
-use Rattle.layout.specs.Header.{headerRefusal, capacitiesAt, places_of}
-use Rattle.layout.specs.Tables.{tablesRefusal}
+use Rattle.layout.specs.Header.{header_refusal, capacities_at, places_of}
+use Rattle.layout.specs.Tables.{tables_refusal}
 
 -- 16 bits and 32 bits from a place on, low byte first
 abbrev pub half : List ℕ → ℕ → ℕ
@@ -17,8 +17,8 @@ abbrev pub word : List ℕ → ℕ → ℕ
 word s p = number 4 s p
 
 -- the header's first six words, byte 0 to byte 23
-unfoldable pub headerOf : List ℕ → Header
-headerOf s =
+unfoldable pub header_of : List ℕ → Header
+header_of s =
     record {
       model = word s 0;
       order = word s 4;
@@ -33,36 +33,36 @@ unfoldable pub capacity : List ℕ → ℕ → ℕ
 capacity s k = half s (word s 24 + 2 * k)
 
 -- the arrival count of slot t; the slot counts start at the offset in byte 28
-unfoldable pub slotCount : List ℕ → ℕ → ℕ
-slotCount s t = half s (word s 28 + 2 * t)
+unfoldable pub slot_count : List ℕ → ℕ → ℕ
+slot_count s t = half s (word s 28 + 2 * t)
 
 -- byte b of the arrivals, which start at the offset in byte 32
-unfoldable pub portByte : List ℕ → ℕ → ℕ
-portByte s b = byte s (word s 32 + b)
+unfoldable pub port_byte : List ℕ → ℕ → ℕ
+port_byte s b = byte s (word s 32 + b)
 
 -- the offsets and the total are what the counts make them, and the slice's length is the total
-unfoldable pub placesRight : List ℕ → Places → Bool
-placesRight s p =
-    eqb (word s 24) capacitiesAt
+unfoldable pub places_right : List ℕ → Places → Bool
+places_right s p =
+    eqb (word s 24) capacities_at
     && (eqb (word s 28) p.counts
     && (eqb (word s 32) p.arrivals && (eqb (word s 36) p.total && eqb (length s) p.total)))
 
 -- the refusals 1 to 11 in their order, 0 for an accepted trace
-unfoldable pub bodyRefusal : List ℕ → Header → ℕ
-bodyRefusal s h = unless (placesRight s (places_of h)) 8 ⨟ tablesRefusal h (capacity s) (slotCount s) (portByte s)
+unfoldable pub body_refusal : List ℕ → Header → ℕ
+body_refusal s h = unless (places_right s (places_of h)) 8 ⨟ tables_refusal h (capacity s) (slot_count s) (port_byte s)
 
 unfoldable pub reading : List ℕ → ℕ
-reading s = unless (leb 40 (length s)) 1 ⨟ headerRefusal (headerOf s) ⨟ bodyRefusal s (headerOf s)
+reading s = unless (leb 40 (length s)) 1 ⨟ header_refusal (header_of s) ⨟ body_refusal s (header_of s)
 
 -- the verdict for a refusal's number: 0 accepts, with the header's numbers
-unfoldable pub verdictOf : ℕ → Header → Verdict
-verdictOf zero h = Accepted h
-verdictOf (suc n) h = Refused (suc n)
+unfoldable pub verdict_of : ℕ → Header → Verdict
+verdict_of zero h = Accepted h
+verdict_of (suc n) h = Refused (suc n)
 
 unfoldable pub verdict : List ℕ → Verdict
-verdict s = verdictOf (reading s) (headerOf s)
+verdict s = verdict_of (reading s) (header_of s)
 
 -- the paper's number of each verdict
-unfoldable pub refusalOf : Verdict → ℕ
-refusalOf (Accepted h) = 0
-refusalOf (Refused n) = n
+unfoldable pub refusal_of : Verdict → ℕ
+refusal_of (Accepted h) = 0
+refusal_of (Refused n) = n

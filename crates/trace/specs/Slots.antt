@@ -1,39 +1,39 @@
 -- One slot's arrivals and the part of the trace that holds them (document 01: the reader "hands out the arrivals of one slot after
 -- another").
 use Rattle.std.specs.Prelude.{ℕ, ◌+◌, ◌*◌, Bool, true, false, cond, List, [], take, drop, ltb}
-use Rattle.base.specs.Below.{sumBelow}
+use Rattle.base.specs.Below.{sum_below}
 use Rattle.trace.specs.declared.Ports.{Ports}
 use Rattle.trace.specs.declared.Standing.{Standing}
 use Rattle.trace.specs.declared.Standing.TheVariants.{Arrivals, NoMore, Refused as StandingRefused}
 use Rattle.trace.specs.declared.Verdict.{Verdict}
 use Rattle.trace.specs.declared.Verdict.TheVariants.{Accepted, Refused}
-use Rattle.trace.specs.Reading.{word, slotCount, portByte, verdict}
+use Rattle.trace.specs.Reading.{word, slot_count, port_byte, verdict}
 
 -- arrival a, input port and output port
-unfoldable pub arrivalOf : List ℕ → ℕ → Ports
-arrivalOf s a = record { input = portByte s (2 * a); output = portByte s (2 * a + 1) }
+unfoldable pub arrival_of : List ℕ → ℕ → Ports
+arrival_of s a = record { input = port_byte s (2 * a); output = port_byte s (2 * a + 1) }
 
 -- how many arrivals stand before slot t
 unfoldable pub before : List ℕ → ℕ → ℕ
-before s t = sumBelow (slotCount s) t
+before s t = sum_below (slot_count s) t
 
 -- the bytes of slot t's arrivals, where `start` arrivals stand before it
-unfoldable pub partFrom : List ℕ → ℕ → ℕ → List ℕ
-partFrom s t start = take (2 * slotCount s t) (drop (word s 32 + 2 * start) s)
+unfoldable pub part_from : List ℕ → ℕ → ℕ → List ℕ
+part_from s t start = take (2 * slot_count s t) (drop (word s 32 + 2 * start) s)
 
 -- what stands at slot t: a bad trace's refusal; no more, where t is not below the slots; or arrivals to hand out
-unfoldable pub standingIn : Verdict → ℕ → Standing
-standingIn (Accepted h) t = cond (ltb t h.slots) Arrivals NoMore
-standingIn (Refused n) t = StandingRefused n
+unfoldable pub standing_in : Verdict → ℕ → Standing
+standing_in (Accepted h) t = cond (ltb t h.slots) Arrivals NoMore
+standing_in (Refused n) t = StandingRefused n
 
 unfoldable pub standing : List ℕ → ℕ → Standing
-standing s t = standingIn (verdict s) t
+standing s t = standing_in (verdict s) t
 
 -- the bytes of slot t's arrivals, and none where there is nothing to hand out
 unfoldable pub part_at : Standing → List ℕ → ℕ → List ℕ
-part_at Arrivals s t = partFrom s t (before s t)
+part_at Arrivals s t = part_from s t (before s t)
 part_at NoMore s t = []
 part_at (StandingRefused n) s t = []
 
-unfoldable pub slotPart : List ℕ → ℕ → List ℕ
-slotPart s t = part_at (standing s t) s t
+unfoldable pub slot_part : List ℕ → ℕ → List ℕ
+slot_part s t = part_at (standing s t) s t

@@ -3,10 +3,10 @@ mod numbers; // numbers.rt: 8, 16 and 32 bits out of a slice of bytes
 mod tables; // tables.rt: what the three tables may hold
 
 ghost use Rattle.std.specs.Prelude.{◌≡◌, true};
-ghost use Rattle.layout.specs.Header.{headerRefusal, places_of};
-ghost use Rattle.layout.specs.Tables.{tablesRefusal};
-ghost use Rattle.trace.specs.Reading.{headerOf, capacity, slotCount, portByte, placesRight, bodyRefusal, verdict};
-ghost use Rattle.trace.specs.Slots.{arrivalOf, partFrom, slotPart, standing};
+ghost use Rattle.layout.specs.Header.{header_refusal, places_of};
+ghost use Rattle.layout.specs.Tables.{tables_refusal};
+ghost use Rattle.trace.specs.Reading.{header_of, capacity, slot_count, port_byte, places_right, body_refusal, verdict};
+ghost use Rattle.trace.specs.Slots.{arrival_of, part_from, slot_part, standing};
 
 use layout::{Header, LaidOut, Places};
 
@@ -34,8 +34,8 @@ pub enum Standing {
 
 // The refusals 9 to 11, of tables that stand in their places.
 fn tables_refusal(trace: &[u8], header: Header, places: Places) -> u32
-    requires { (headerRefusal header ≡ 0) × (places ≡ places_of header) × (placesRight trace.now places ≡ true) }
-    ensures { result ≡ tablesRefusal header (capacity trace.now) (slotCount trace.now) (portByte trace.now) }
+    requires { (header_refusal header ≡ 0) × (places ≡ places_of header) × (places_right trace.now places ≡ true) }
+    ensures { result ≡ tables_refusal header (capacity trace.now) (slot_count trace.now) (port_byte trace.now) }
 {
     let n = header.ports;
     let slots = header.slots as u16;
@@ -54,8 +54,8 @@ fn tables_refusal(trace: &[u8], header: Header, places: Places) -> u32
 
 // The refusals 8 to 11, of a trace whose header's numbers are allowed.
 fn body_refusal(trace: &[u8], header: Header, places: Places) -> u32
-    requires { (headerRefusal header ≡ 0) × (places ≡ places_of header) }
-    ensures { result ≡ bodyRefusal trace.now header }
+    requires { (header_refusal header ≡ 0) × (places ≡ places_of header) }
+    ensures { result ≡ body_refusal trace.now header }
 {
     if !tables::places_right(trace, places) {
         return 8;
@@ -84,7 +84,7 @@ pub fn examine(trace: &[u8]) -> Verdict
 
 // The header's first six words, allowed or not.
 pub fn head(trace: &[u8]) -> Header
-    ensures { result ≡ headerOf trace.now }
+    ensures { result ≡ header_of trace.now }
 {
     numbers::header(trace)
 }
@@ -99,14 +99,14 @@ pub fn capacity(trace: &[u8], k: usize) -> u32
 
 // The arrival count of slot t.
 pub fn slot_count(trace: &[u8], t: usize) -> u32
-    ensures { result ≡ slotCount trace.now t }
+    ensures { result ≡ slot_count trace.now t }
 {
     numbers::entry(trace, numbers::word(trace, 28) as usize, t)
 }
 
 // Arrival a.
 pub fn arrival(trace: &[u8], a: usize) -> Ports
-    ensures { result ≡ arrivalOf trace.now a }
+    ensures { result ≡ arrival_of trace.now a }
 {
     let p = numbers::place(trace.len(), numbers::word(trace, 32) as usize, a);
     Ports {
@@ -118,7 +118,7 @@ pub fn arrival(trace: &[u8], a: usize) -> Ports
 // The bytes of slot t's arrivals, where `start` arrivals stand before it: a walk over all slots that hands on each start costs one
 // pass over the counts.
 pub fn part_from(trace: &[u8], t: usize, start: usize) -> &[u8]
-    ensures { result.now ≡ partFrom trace.now t start }
+    ensures { result.now ≡ part_from trace.now t start }
 {
     let count = slot_count(trace, t) as usize;
     let at = numbers::word(trace, 32) as usize;
@@ -146,7 +146,7 @@ pub fn stands(trace: &[u8], t: usize) -> Standing
 
 // The bytes of slot t's arrivals, and none where the trace is refused or has no slot t.
 pub fn slot_part(trace: &[u8], t: usize) -> &[u8]
-    ensures { result.now ≡ slotPart trace.now t }
+    ensures { result.now ≡ slot_part trace.now t }
 {
     match stands(trace, t) {
         Standing::Arrivals => part_from(

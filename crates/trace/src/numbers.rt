@@ -1,7 +1,7 @@
 // Numbers out of a slice of bytes, low byte first. Every place may be asked for: past the end each byte reads as 0.
 ghost use Rattle.std.specs.Prelude.{◌≡◌, ◌+◌, ◌*◌, ◌<◌, min};
 ghost use Rattle.base.specs.Digits.{byte};
-ghost use Rattle.trace.specs.Reading.{half, word, headerOf};
+ghost use Rattle.trace.specs.Reading.{half, word, header_of};
 
 use layout::Header;
 
@@ -53,7 +53,7 @@ pub(crate) fn entry(s: &[u8], at: usize, k: usize) -> u32
 }
 
 pub(crate) fn header(s: &[u8]) -> Header
-    ensures { result ≡ headerOf s.now }
+    ensures { result ≡ header_of s.now }
 {
     Header {
         model: word(s, 0),

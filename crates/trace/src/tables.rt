@@ -1,16 +1,16 @@
 // What the three tables of a trace may hold.
 ghost use Rattle.std.specs.Prelude.{◌≡◌, ◌+◌, ◌*◌, ltb};
-ghost use Rattle.base.specs.Below.{all_below, sumBelow};
+ghost use Rattle.base.specs.Below.{all_below, sum_below};
 ghost use Rattle.base.specs.Digits.{byte};
-ghost use Rattle.layout.specs.Tables.{capacityAllowed};
-ghost use Rattle.trace.specs.Reading.{half, placesRight};
+ghost use Rattle.layout.specs.Tables.{capacity_allowed};
+ghost use Rattle.trace.specs.Reading.{half, places_right};
 
 use crate::numbers;
 use layout::Places;
 
 // Whether the offsets and the total stand in the header as the counts make them, and the slice ends there.
 pub(crate) fn places_right(trace: &[u8], places: Places) -> bool
-    ensures { result ≡ placesRight trace.now places }
+    ensures { result ≡ places_right trace.now places }
 {
     let capacities = numbers::word(trace, 24) as usize == 40;
     let counts = numbers::word(trace, 28) as usize == places.counts;
@@ -25,7 +25,7 @@ pub(crate) fn places_right(trace: &[u8], places: Places) -> bool
 
 // Whether each of the `count` capacities from `at` on is allowed.
 pub(crate) fn capacities_allowed(trace: &[u8], at: usize, count: usize) -> bool
-    ensures { result ≡ all_below (λ k. capacityAllowed (half trace.now (at + 2 * k))) count }
+    ensures { result ≡ all_below (λ k. capacity_allowed (half trace.now (at + 2 * k))) count }
 {
     let mut k = 0;
     while k < count {
@@ -39,7 +39,7 @@ pub(crate) fn capacities_allowed(trace: &[u8], at: usize, count: usize) -> bool
 
 // The sum of the first `slots` of the counts from `at` on.
 pub(crate) fn sum(trace: &[u8], at: usize, slots: u16) -> usize
-    ensures { result ≡ sumBelow (λ t. half trace.now (at + 2 * t)) slots }
+    ensures { result ≡ sum_below (λ t. half trace.now (at + 2 * t)) slots }
 {
     let end = slots as usize;
     let mut sum: usize = 0;

@@ -8,5 +8,5 @@ use Rattle.trace_write.specs.declared.Written.{Written}
 use Rattle.trace_write.proofs.write.Kinds as write-kinds
 use Rattle.trace_write.proofs.write.Reads as write
 
-pub write-one : OneShown 4 write-kinds.ps write-kinds.r {A = λ κs. Written × List ℕ} (λ κs x d. (x, d.1.1.1.1.0.now)) write.Post
-write-one κs a x y d e p q = λ i. (determined p.0 q.0 i, determined p.1 q.1 i)
+pub write_one : OneShown 4 write-kinds.ps write-kinds.r {A = λ κs. Written × List ℕ} (λ κs x d. (x, d.1.1.1.1.0.now)) write.Post
+write_one κs a x y d e p q = λ i. (determined p.0 q.0 i, determined p.1 q.1 i)

@@ -1,10 +1,10 @@
 // What the tables lent to the writer may hold.
 ghost use Rattle.std.specs.Prelude.{◌≡◌, ◌+◌, ◌*◌, ◌≤◌, length, get_or, ltb, leb};
-ghost use Rattle.base.specs.Below.{all_below, sumBelow};
+ghost use Rattle.base.specs.Below.{all_below, sum_below};
 ghost use Rattle.base.specs.Refusal.{unless, ◌⨟◌};
-ghost use Rattle.layout.specs.Header.{headerRefusal, places_of};
-ghost use Rattle.layout.specs.Tables.{capacityAllowed};
-ghost use Rattle.trace_write.specs.Writing.{lengthsRight, lentRefusal, bodyRefusal};
+ghost use Rattle.layout.specs.Header.{header_refusal, places_of};
+ghost use Rattle.layout.specs.Tables.{capacity_allowed};
+ghost use Rattle.trace_write.specs.Writing.{lengths_right, lent_refusal, body_refusal};
 
 use layout::{Header, Places};
 
@@ -30,7 +30,7 @@ fn byte(table: &[u8], b: usize) -> u32
 
 // Whether each of the first `count` capacities is allowed.
 fn capacities_allowed(table: &[u16], count: usize) -> bool
-    ensures { result ≡ all_below (λ k. capacityAllowed (get_or table.now k 0)) count }
+    ensures { result ≡ all_below (λ k. capacity_allowed (get_or table.now k 0)) count }
 {
     let mut k = 0;
     while k < count {
@@ -44,7 +44,7 @@ fn capacities_allowed(table: &[u16], count: usize) -> bool
 
 // The sum of the first `slots` counts.
 fn sum(table: &[u16], slots: u16) -> usize
-    ensures { result ≡ sumBelow (λ t. get_or table.now t 0) slots }
+    ensures { result ≡ sum_below (λ t. get_or table.now t 0) slots }
 {
     let end = slots as usize;
     let mut sum: usize = 0;
@@ -77,8 +77,8 @@ fn lengths_right(
     counts: &[u16],
     ports: &[u8],
 ) -> bool
-    requires { (headerRefusal header ≡ 0) × (places ≡ places_of header) }
-    ensures { result ≡ lengthsRight header capacities.now counts.now ports.now }
+    requires { (header_refusal header ≡ 0) × (places ≡ places_of header) }
+    ensures { result ≡ lengths_right header capacities.now counts.now ports.now }
 {
     let first = capacities.len() == places.capacities;
     let second = counts.len() == header.slots as usize;
@@ -93,8 +93,8 @@ fn tables_refusal(
     counts: &[u16],
     ports: &[u8],
 ) -> u32
-    requires { (headerRefusal header ≡ 0) × (places ≡ places_of header) }
-    ensures { result ≡ lentRefusal header capacities.now counts.now ports.now }
+    requires { (header_refusal header ≡ 0) × (places ≡ places_of header) }
+    ensures { result ≡ lent_refusal header capacities.now counts.now ports.now }
 {
     let slots = header.slots as u16;
     let arrivals = header.arrivals as usize;
@@ -113,8 +113,8 @@ pub(crate) fn refusal(
     ports: &[u8],
     room: usize,
 ) -> u32
-    requires { (headerRefusal header ≡ 0) × (places ≡ places_of header) }
-    ensures { result ≡ bodyRefusal header capacities.now counts.now ports.now room }
+    requires { (header_refusal header ≡ 0) × (places ≡ places_of header) }
+    ensures { result ≡ body_refusal header capacities.now counts.now ports.now room }
 {
     let lengths = base::unless(lengths_right(header, places, capacities, counts, ports), 17);
     let tables = tables_refusal(header, places, capacities, counts, ports);

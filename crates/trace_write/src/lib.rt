@@ -4,8 +4,8 @@ mod lent; // lent.rt: what the lent tables may hold
 
 ghost use Rattle.std.specs.Prelude.{◌≡◌, true};
 ghost use Rattle.std.proofs.lemmas.List.Edits.{sets};
-ghost use Rattle.layout.specs.Header.{headerRefusal, places_of};
-ghost use Rattle.trace_write.specs.Writing.{lengthsRight, file, written, writtenOut};
+ghost use Rattle.layout.specs.Header.{header_refusal, places_of};
+ghost use Rattle.trace_write.specs.Writing.{lengths_right, file, written, written_out};
 
 use layout::{Header, LaidOut, Places};
 
@@ -25,7 +25,7 @@ fn fill(
     ports: &[u8],
     out: &mut [u8],
 )
-    requires { (headerRefusal header ≡ 0) × (places ≡ places_of header) × (lengthsRight header capacities.now counts.now ports.now ≡ true) }
+    requires { (header_refusal header ≡ 0) × (places ≡ places_of header) × (lengths_right header capacities.now counts.now ports.now ≡ true) }
     ensures { out.new ≡ sets out.old 0 (file header capacities.now counts.now ports.now) }
 {
     put::header(out, header, places);
@@ -42,7 +42,7 @@ pub fn write(
     out: &mut [u8],
 ) -> Written
     ensures value { result ≡ written header capacities.now counts.now ports.now out.old }
-    ensures out_after { out.new ≡ writtenOut header capacities.now counts.now ports.now out.old }
+    ensures out_after { out.new ≡ written_out header capacities.now counts.now ports.now out.old }
 {
     match layout::lay_out(header) {
         LaidOut::Refused(n) => Written::Refused(n),

@@ -2,8 +2,8 @@
 ghost use Rattle.std.specs.Prelude.{◌≡◌, ◌≤◌, ◌<◌, length, set};
 ghost use Rattle.std.proofs.lemmas.List.Edits.{sets};
 ghost use Rattle.base.specs.Digits.{digits, spell};
-ghost use Rattle.layout.specs.Header.{headerRefusal, places_of};
-ghost use Rattle.trace_write.specs.Writing.{headerWords};
+ghost use Rattle.layout.specs.Header.{header_refusal, places_of};
+ghost use Rattle.trace_write.specs.Writing.{header_words};
 
 use layout::{Header, Places};
 
@@ -46,8 +46,8 @@ fn words(out: &mut [u8], numbers: &[u32])
 
 // The ten words of the header.
 pub(crate) fn header(out: &mut [u8], h: Header, places: Places)
-    requires { (headerRefusal h ≡ 0) × (places ≡ places_of h) }
-    ensures { out.new ≡ sets out.old 0 (spell 4 (headerWords h)) }
+    requires { (header_refusal h ≡ 0) × (places ≡ places_of h) }
+    ensures { out.new ≡ sets out.old 0 (spell 4 (header_words h)) }
 {
     let counts = places.counts as u32;
     let arrivals = places.arrivals as u32;

@@ -1,14 +1,14 @@
 // Answers as numbers.
 ghost use Rattle.std.specs.Prelude.{◌≡◌};
-ghost use Rattle.trace.specs.Reading.{refusalOf};
-ghost use Rattle.vaznirokh.specs.Library.{writtenNumber, takenNumber, takenWord, drainNumber, drainWord, drainQuiet};
+ghost use Rattle.trace.specs.Reading.{refusal_of};
+ghost use Rattle.vaznirokh.specs.Library.{written_number, taken_number, taken_word, drain_number, drain_word, drain_quiet};
 
 use switch::{Drain, Taken};
 use trace::Verdict;
 use trace_write::Written;
 
 pub(crate) fn verdict_number(v: Verdict) -> u32
-    ensures { result ≡ refusalOf v }
+    ensures { result ≡ refusal_of v }
 {
     match v {
         Verdict::Accepted(_) => 0,
@@ -17,7 +17,7 @@ pub(crate) fn verdict_number(v: Verdict) -> u32
 }
 
 pub(crate) fn written_number(w: Written) -> u32
-    ensures { result ≡ writtenNumber w }
+    ensures { result ≡ written_number w }
 {
     match w {
         Written::Filled(_) => 0,
@@ -33,7 +33,7 @@ pub(crate) struct TakenWords {
 }
 
 pub(crate) fn taken_words(t: Taken) -> TakenWords
-    ensures { (result.number ≡ takenNumber t) × (result.word ≡ takenWord t) }
+    ensures { (result.number ≡ taken_number t) × (result.word ≡ taken_word t) }
 {
     match t {
         Taken::Accepted => TakenWords { number: 0, word: 1 },
@@ -51,7 +51,7 @@ pub(crate) struct DrainWords {
 }
 
 pub(crate) fn drain_words(d: Drain) -> DrainWords
-    ensures { (result.number ≡ drainNumber d) × (result.word ≡ drainWord d) × (result.quiet ≡ drainQuiet d) }
+    ensures { (result.number ≡ drain_number d) × (result.word ≡ drain_word d) × (result.quiet ≡ drain_quiet d) }
 {
     match d {
         Drain::Empty(n) => DrainWords {

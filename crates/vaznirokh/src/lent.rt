@@ -4,9 +4,9 @@ ghost use Rattle.base.specs.Refusal.{◌⨟◌};
 ghost use Rattle.switch.specs.Making.{made};
 ghost use Rattle.switch.specs.Steps.{arrive, close};
 ghost use Rattle.switch.specs.Draining.{drain};
-ghost use Rattle.run.specs.Run.{ran, ranLog};
-ghost use Rattle.image.specs.Image.{switchOf, image_of};
-ghost use Rattle.vaznirokh.specs.Library.{lengthNumber, settled, countWords, headerOfWords, takenNumber, takenWord, drainNumber, drainWord, drainQuiet};
+ghost use Rattle.run.specs.Run.{ran, ran_log};
+ghost use Rattle.image.specs.Image.{switch_of, image_of};
+ghost use Rattle.vaznirokh.specs.Library.{length_number, settled, count_words, header_of_words, taken_number, taken_word, drain_number, drain_word, drain_quiet};
 
 use crate::answers;
 use layout::Header;
@@ -15,14 +15,14 @@ use switch::Switch;
 
 // 30 unless a run of words has n entries.
 pub(crate) fn length_number(n: usize, words: &[u32]) -> u32
-    ensures { result ≡ lengthNumber n words.now }
+    ensures { result ≡ length_number n words.now }
 {
     base::unless(words.len() == n, 30)
 }
 
 // The same for the words of a switch and an answer of n words.
 pub(crate) fn lengths_number(n: usize, state: &[u32], answer: &[u32]) -> u32
-    ensures { result ≡ (lengthNumber 1066 state.now ⨟ lengthNumber n answer.now) }
+    ensures { result ≡ (length_number 1066 state.now ⨟ length_number n answer.now) }
 {
     base::first(length_number(1066, state), length_number(n, answer))
 }
@@ -30,7 +30,7 @@ pub(crate) fn lengths_number(n: usize, state: &[u32], answer: &[u32]) -> u32
 // Six counts into the words that are lent for them.
 fn put_counts(words: &mut [u32], counts: Counts)
     requires { length words.old ≡ 6 }
-    ensures { words.new ≡ countWords counts }
+    ensures { words.new ≡ count_words counts }
 {
     words[0] = counts.arrived;
     words[1] = counts.dropped;
@@ -44,8 +44,8 @@ fn put_counts(words: &mut [u32], counts: Counts)
 pub(crate) fn run(trace: &[u8], log: &mut [u32], counts: &mut [u32]) -> u32
     requires { length counts.old ≡ 6 }
     ensures value { result ≡ (ran trace.now log.old).refusal }
-    ensures log_after { log.new ≡ ranLog trace.now log.old }
-    ensures counts_after { counts.new ≡ settled result (countWords (ran trace.now log.old).counts) counts.old }
+    ensures log_after { log.new ≡ ran_log trace.now log.old }
+    ensures counts_after { counts.new ≡ settled result (count_words (ran trace.now log.old).counts) counts.old }
 {
     let ran = run::run(trace, log);
     let n = ran.refusal;
@@ -59,7 +59,7 @@ pub(crate) fn run(trace: &[u8], log: &mut [u32], counts: &mut [u32]) -> u32
 
 // Six words as a header.
 pub(crate) fn header(words: &[u32]) -> Header
-    ensures { result ≡ headerOfWords words.now }
+    ensures { result ≡ header_of_words words.now }
 {
     Header {
         model: queues::number_at(words, 0),
@@ -98,9 +98,9 @@ pub(crate) fn new(trace: &[u8], state: &mut [u32]) -> u32
 // One arrival.
 pub(crate) fn arrive(state: &mut [u32], input: u32, output: u32, answer: &mut [u32]) -> u32
     requires { (length state.old ≡ 1066) × (length answer.old ≡ 1) }
-    ensures value { result ≡ takenNumber (arrive (switchOf state.old) input output).answer }
-    ensures state_after { state.new ≡ settled result (image_of (arrive (switchOf state.old) input output).switch) state.old }
-    ensures answer_after { answer.new ≡ settled result (takenWord (arrive (switchOf state.old) input output).answer ∷ []) answer.old }
+    ensures value { result ≡ taken_number (arrive (switch_of state.old) input output).answer }
+    ensures state_after { state.new ≡ settled result (image_of (arrive (switch_of state.old) input output).switch) state.old }
+    ensures answer_after { answer.new ≡ settled result (taken_word (arrive (switch_of state.old) input output).answer ∷ []) answer.old }
 {
     let arrived = image::switch_of(state).arrive(input, output);
     let taken = arrived.answer;
@@ -118,8 +118,8 @@ pub(crate) fn arrive(state: &mut [u32], input: u32, output: u32, answer: &mut [u
 // A closing.
 pub(crate) fn close(state: &mut [u32]) -> u32
     requires { length state.old ≡ 1066 }
-    ensures value { result ≡ (close (switchOf state.old)).refusal }
-    ensures state_after { state.new ≡ settled result (image_of (close (switchOf state.old)).switch) state.old }
+    ensures value { result ≡ (close (switch_of state.old)).refusal }
+    ensures state_after { state.new ≡ settled result (image_of (close (switch_of state.old)).switch) state.old }
 {
     let closed = image::switch_of(state).close();
     let n = closed.refusal;
@@ -134,9 +134,9 @@ pub(crate) fn close(state: &mut [u32]) -> u32
 // A drain.
 pub(crate) fn drain(state: &mut [u32], limit: u32, answer: &mut [u32]) -> u32
     requires { (length state.old ≡ 1066) × (length answer.old ≡ 2) }
-    ensures value { result ≡ drainNumber (drain (switchOf state.old) limit).answer }
-    ensures state_after { state.new ≡ settled result (image_of (drain (switchOf state.old) limit).switch) state.old }
-    ensures answer_after { answer.new ≡ settled result (drainWord (drain (switchOf state.old) limit).answer ∷ (drainQuiet (drain (switchOf state.old) limit).answer ∷ [])) answer.old }
+    ensures value { result ≡ drain_number (drain (switch_of state.old) limit).answer }
+    ensures state_after { state.new ≡ settled result (image_of (drain (switch_of state.old) limit).switch) state.old }
+    ensures answer_after { answer.new ≡ settled result (drain_word (drain (switch_of state.old) limit).answer ∷ (drain_quiet (drain (switch_of state.old) limit).answer ∷ [])) answer.old }
 {
     let drained = image::switch_of(state).drain(limit);
     let end = drained.answer;

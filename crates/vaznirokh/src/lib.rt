@@ -5,14 +5,14 @@ mod answers; // answers.rt: answers as numbers
 mod lent; // lent.rt: the work on lent runs that have their lengths
 
 ghost use Rattle.std.specs.Prelude.{◌≡◌};
-ghost use Rattle.vaznirokh.specs.Library.{vazExamine, vazRun, vazRunLog, vazRunCounts, vazWrite, vazWriteOut};
-ghost use Rattle.vaznirokh.specs.Library.{vazNew, vazNewState, vazArrive, vazArriveState, vazArriveAnswer, vazClose, vazCloseState};
-ghost use Rattle.vaznirokh.specs.Library.{vazDrain, vazDrainState, vazDrainAnswer};
+ghost use Rattle.vaznirokh.specs.Library.{vaz_examine, vaz_run, vaz_run_log, vaz_run_counts, vaz_write, vaz_write_out};
+ghost use Rattle.vaznirokh.specs.Library.{vaz_new, vaz_new_state, vaz_arrive, vaz_arrive_state, vaz_arrive_answer, vaz_close, vaz_close_state};
+ghost use Rattle.vaznirokh.specs.Library.{vaz_drain, vaz_drain_state, vaz_drain_answer};
 
 // The verdict on a trace: 0, or 1 to 11.
 #[unsafe(no_mangle)]
 pub extern "C" fn vaz_examine(trace: &[u8]) -> u32
-    ensures { result ≡ vazExamine trace.now }
+    ensures { result ≡ vaz_examine trace.now }
 {
     answers::verdict_number(trace::examine(trace))
 }
@@ -20,9 +20,9 @@ pub extern "C" fn vaz_examine(trace: &[u8]) -> u32
 // A whole trace: its log, and the six counts arrived, dropped, crossed, outmoved, sent and held.
 #[unsafe(no_mangle)]
 pub extern "C" fn vaz_run(trace: &[u8], log: &mut [u32], counts: &mut [u32]) -> u32
-    ensures value { result ≡ vazRun trace.now log.old counts.old }
-    ensures log_after { log.new ≡ vazRunLog trace.now log.old counts.old }
-    ensures counts_after { counts.new ≡ vazRunCounts trace.now log.old counts.old }
+    ensures value { result ≡ vaz_run trace.now log.old counts.old }
+    ensures log_after { log.new ≡ vaz_run_log trace.now log.old counts.old }
+    ensures counts_after { counts.new ≡ vaz_run_counts trace.now log.old counts.old }
 {
     let n = lent::length_number(6, counts);
     if n != 0 {
@@ -40,8 +40,8 @@ pub extern "C" fn vaz_write(
     arrivals: &[u8],
     out: &mut [u8],
 ) -> u32
-    ensures value { result ≡ vazWrite header.now capacities.now slot_counts.now arrivals.now out.old }
-    ensures out_after { out.new ≡ vazWriteOut header.now capacities.now slot_counts.now arrivals.now out.old }
+    ensures value { result ≡ vaz_write header.now capacities.now slot_counts.now arrivals.now out.old }
+    ensures out_after { out.new ≡ vaz_write_out header.now capacities.now slot_counts.now arrivals.now out.old }
 {
     let n = lent::length_number(6, header);
     if n != 0 {
@@ -54,8 +54,8 @@ pub extern "C" fn vaz_write(
 // A new switch from a trace's header and capacities, into 1,066 lent words.
 #[unsafe(no_mangle)]
 pub extern "C" fn vaz_new(trace: &[u8], state: &mut [u32]) -> u32
-    ensures value { result ≡ vazNew trace.now state.old }
-    ensures state_after { state.new ≡ vazNewState trace.now state.old }
+    ensures value { result ≡ vaz_new trace.now state.old }
+    ensures state_after { state.new ≡ vaz_new_state trace.now state.old }
 {
     let n = lent::length_number(1066, state);
     if n != 0 {
@@ -67,9 +67,9 @@ pub extern "C" fn vaz_new(trace: &[u8], state: &mut [u32]) -> u32
 // One arrival at an input for an output, in the lent switch's slot: the answer is 1 for accepted and 2 for dropped.
 #[unsafe(no_mangle)]
 pub extern "C" fn vaz_arrive(state: &mut [u32], input: u32, output: u32, answer: &mut [u32]) -> u32
-    ensures value { result ≡ vazArrive state.old input output answer.old }
-    ensures state_after { state.new ≡ vazArriveState state.old input output answer.old }
-    ensures answer_after { answer.new ≡ vazArriveAnswer state.old input output answer.old }
+    ensures value { result ≡ vaz_arrive state.old input output answer.old }
+    ensures state_after { state.new ≡ vaz_arrive_state state.old input output answer.old }
+    ensures answer_after { answer.new ≡ vaz_arrive_answer state.old input output answer.old }
 {
     let n = lent::lengths_number(1, state, answer);
     if n != 0 {
@@ -81,8 +81,8 @@ pub extern "C" fn vaz_arrive(state: &mut [u32], input: u32, output: u32, answer:
 // The lent switch's slot is closed.
 #[unsafe(no_mangle)]
 pub extern "C" fn vaz_close(state: &mut [u32]) -> u32
-    ensures value { result ≡ vazClose state.old }
-    ensures state_after { state.new ≡ vazCloseState state.old }
+    ensures value { result ≡ vaz_close state.old }
+    ensures state_after { state.new ≡ vaz_close_state state.old }
 {
     let n = lent::length_number(1066, state);
     if n != 0 {
@@ -94,9 +94,9 @@ pub extern "C" fn vaz_close(state: &mut [u32]) -> u32
 // The lent switch is drained: the answer is 1 for empty and 0 for not, and then the quiet slots.
 #[unsafe(no_mangle)]
 pub extern "C" fn vaz_drain(state: &mut [u32], limit: u32, answer: &mut [u32]) -> u32
-    ensures value { result ≡ vazDrain state.old limit answer.old }
-    ensures state_after { state.new ≡ vazDrainState state.old limit answer.old }
-    ensures answer_after { answer.new ≡ vazDrainAnswer state.old limit answer.old }
+    ensures value { result ≡ vaz_drain state.old limit answer.old }
+    ensures state_after { state.new ≡ vaz_drain_state state.old limit answer.old }
+    ensures answer_after { answer.new ≡ vaz_drain_answer state.old limit answer.old }
 {
     let n = lent::lengths_number(2, state, answer);
     if n != 0 {

@@ -12,5 +12,5 @@ returns-2 : tie.Need-returns-2
 unfolding unless
 returns-2 c = rw c.if1.false
 
-pub unless-spec : {M : Type 1} → statement M
-unless-spec = tie.close (tie.spec returns returns-2)
+pub unless_spec : {M : Type 1} → statement M
+unless_spec = tie.close (tie.spec returns returns-2)

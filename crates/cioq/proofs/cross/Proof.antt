@@ -4,7 +4,7 @@ use borrow.Author.Rules.{rules}
 use mathlib.Core.Path.{refl, ap, ◌∙◌}
 use mathlib.Core.Bool.{Bool, cond}
 use Rattle.queues.specs.Queues.{more, fewer}
-use Rattle.queues.specs.Events.{crossedAt}
+use Rattle.queues.specs.Events.{crossed_at}
 use Rattle.queues.specs.Log.{entered}
 use Rattle.cioq.proofs.cross.Statement.{statement}
 use Rattle.cioq.proofs.cross.Tie as tie
@@ -40,20 +40,20 @@ same-length-3 : tie.Need-same-length-3
 same-length-3 c = search rules
 
 returns : tie.Need-returns
-unfolding crossedAt
+unfolding crossed_at
 returns c = let a = c.before.before.before.before.before.before.before.before.before.before.before.before.before.before.before.before.before.before.args in
     let emitted = c.before.before.emit.ensures in
     record {
-      of-from = c.before.before.before.before.before.before.before.before.before.before.before.leave.ensures ∙ ap (fewer a.inlen.now) c.before.before.before.before.before.before.before.before.before.before.before.before.place.ensures;
-      of-to = c.before.before.before.before.before.before.before.join.ensures ∙ ap (λ (t : Bool). cond t (more a.outlen.now a.j) a.outlen.now) c.before.before.before.before.before.before.before.before.before.before.before.before.before.before.before.before.before.before.requires.1;
-      of-flags = refl;
-      of-log = emitted.0 ∙ ap (entered a.log.now a.went.at) c.before.before.before.word.ensures;
+      of_from = c.before.before.before.before.before.before.before.before.before.before.before.leave.ensures ∙ ap (fewer a.inlen.now) c.before.before.before.before.before.before.before.before.before.before.before.before.place.ensures;
+      of_to = c.before.before.before.before.before.before.before.join.ensures ∙ ap (λ (t : Bool). cond t (more a.outlen.now a.j) a.outlen.now) c.before.before.before.before.before.before.before.before.before.before.before.before.before.before.before.before.before.before.requires.1;
+      of_flags = refl;
+      of_log = emitted.0 ∙ ap (entered a.log.now a.went.at) c.before.before.before.word.ensures;
       of_at = emitted.1;
-      of-moved = refl;
+      of_moved = refl;
     }
 
-pub cross-spec : {M : Type 1} → statement M
-cross-spec =
+pub cross_spec : {M : Type 1} → statement M
+cross_spec =
     tie.close
     (tie.spec
     place-requires

@@ -8,8 +8,8 @@ use lib.Seq.{get_or-take, length-take-le}
 use borrow.Author.Rules.{rules}
 use Rattle.queues.specs.Cioq.{matching}
 use Rattle.queues.specs.Lent.{Left}
-use Rattle.cioq.proofs.LeftLaws.{left-length}
-use Rattle.cioq.proofs.CioqLaws.{Upto, first, upto-none, upto-more, upto_all, lengths-kept}
+use Rattle.cioq.proofs.LeftLaws.{left_length}
+use Rattle.cioq.proofs.CioqLaws.{Upto, first, upto_none, upto_more, upto_all, lengths_kept}
 use Rattle.cioq.proofs.cycle.Statement.{statement}
 use Rattle.cioq.proofs.cycle.Tie as tie
 
@@ -29,7 +29,7 @@ loop-holds : tie.Need-loop-init invariant-loop decreases-loop
 loop-holds c = let a = c.before.before.before.before.before.before.args in
     let n = c.before.within.result in (
       search rules,
-      upto-none n (take n a.turn.now) a.outcap.now a.inlen.now a.outlen.now a.slot a.cycle a.log.now a.at _ refl refl,
+      upto_none n (take n a.turn.now) a.outcap.now a.inlen.now a.outlen.now a.slot a.cycle a.log.now a.at _ refl refl,
     )
 
 mul-visit : tie.Need-overflow-mul-visit invariant-loop decreases-loop
@@ -52,7 +52,7 @@ loop-again c = let a = c.before.before.before.before.before.before.before.before
     let n = c.before.before.before.before.before.before.before.before.before.before.before.before.before.before.before.within.result in
     let l = c.before.before.before.before.before.before.before.before.before.before.before.before.before.loop in (
       omega arith,
-      upto-more n (take n a.turn.now) a.outcap.now a.inlen.now a.outlen.now a.slot a.cycle (omega arith)
+      upto_more n (take n a.turn.now) a.outcap.now a.inlen.now a.outlen.now a.slot a.cycle (omega arith)
           l.u _ (sym (get_or-take n a.turn.now l.u 0 (omega arith))) l.invariant.1 c.before.before.before.before.before.before.visit.ensures,
     )
 
@@ -60,18 +60,18 @@ same_length : tie.Need-same-length invariant-loop decreases-loop
 same_length c = let a = c.before.before.before.before.before.before.before.before.args in
     let n = c.before.before.before.within.result in
     let l = c.before.loop in
-    ap length l.invariant.1.left.of-from
-    ∙ (lengths-kept n (take n a.turn.now) a.outcap.now a.inlen.now a.outlen.now a.slot a.cycle l.u).0
+    ap length l.invariant.1.left.of_from
+    ∙ (lengths_kept n (take n a.turn.now) a.outcap.now a.inlen.now a.outlen.now a.slot a.cycle l.u).0
 
 same-length-2 : tie.Need-same-length-2 invariant-loop decreases-loop
 same-length-2 c = let a = c.before.before.before.before.before.before.before.before.args in
     let n = c.before.before.before.within.result in
     let l = c.before.loop in
-    ap length l.invariant.1.left.of-to
-    ∙ (lengths-kept n (take n a.turn.now) a.outcap.now a.inlen.now a.outlen.now a.slot a.cycle l.u).1
+    ap length l.invariant.1.left.of_to
+    ∙ (lengths_kept n (take n a.turn.now) a.outcap.now a.inlen.now a.outlen.now a.slot a.cycle l.u).1
 
 same-length-3 : tie.Need-same-length-3 invariant-loop decreases-loop
-same-length-3 c = left-length c.before.loop.invariant.1.left
+same-length-3 c = left_length c.before.loop.invariant.1.left
 
 returns : tie.Need-returns invariant-loop decreases-loop
 returns c = let a = c.before.before.before.before.before.before.before.before.args in
@@ -84,8 +84,8 @@ returns c = let a = c.before.before.before.before.before.before.before.before.ar
     c.before.before.before.within.ensures
     (upto_all n (take n a.turn.now) a.outcap.now a.inlen.now a.outlen.now a.slot a.cycle l.u (omega arith) l.invariant.1)
 
-pub cycle-spec : {M : Type 1} → statement M
-cycle-spec =
+pub cycle_spec : {M : Type 1} → statement M
+cycle_spec =
     tie.close
     (tie.spec
     invariant-loop

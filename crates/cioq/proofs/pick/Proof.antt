@@ -7,15 +7,15 @@ use mathlib.Core.Path.{◌≡◌, sym, ◌∙◌}
 use mathlib.Core.Bool.{false}
 use borrow.Author.Rules.{rules}
 use borrow.Author.Count.{below_more}
-use Rattle.base.proofs.Lowest.{lowest-found, lowest-none}
-use Rattle.cioq.specs.Visit.{mayTake, chosen}
-use Rattle.queues.proofs.EmptyLaws.{row-none}
-use Rattle.cioq.proofs.VisitLaws.{may-not-empty}
+use Rattle.base.proofs.Lowest.{lowest_found, lowest_none}
+use Rattle.cioq.specs.Visit.{may_take, chosen}
+use Rattle.queues.proofs.EmptyLaws.{row_none}
+use Rattle.cioq.proofs.VisitLaws.{may_not_empty}
 use Rattle.cioq.proofs.pick.Statement.{statement}
 use Rattle.cioq.proofs.pick.Tie as tie
 
 abbrev invariant-loop : tie.invariant-loop
-invariant-loop n i outcap inlen outlen taken j₀ j = (j ≤ n) × ((k : ℕ) → k < j → mayTake outcap inlen outlen taken i k ≡ false)
+invariant-loop n i outcap inlen outlen taken j₀ j = (j ≤ n) × ((k : ℕ) → k < j → may_take outcap inlen outlen taken i k ≡ false)
 
 abbrev decreases-loop : tie.decreases-loop
 decreases-loop n i outcap inlen outlen taken j₀ j = n - j
@@ -28,9 +28,9 @@ returns : tie.Need-returns invariant-loop decreases-loop
 unfolding chosen
 returns c = let a = c.before.before.before.before.before.args in
     sym
-    (lowest-none (mayTake a.outcap.now a.inlen.now a.outlen.now a.taken.now a.i) a.n
-    (λ m h. may-not-empty a.outcap.now a.inlen.now a.outlen.now a.taken.now a.i m
-    (row-none a.inlen.now a.i (sym c.before.row-empty.ensures ∙ c.if1.true) m (omega arith))))
+    (lowest_none (may_take a.outcap.now a.inlen.now a.outlen.now a.taken.now a.i) a.n
+    (λ m h. may_not_empty a.outcap.now a.inlen.now a.outlen.now a.taken.now a.i m
+    (row_none a.inlen.now a.i (sym c.before.row-empty.ensures ∙ c.if1.true) m (omega arith))))
 
 loop-holds : tie.Need-loop-init invariant-loop decreases-loop
 loop-holds c = (search rules, λ k h. absurd (not-suc-le-zero h))
@@ -43,7 +43,7 @@ unfolding chosen
 returns-2 c = let a = c.before.before.before.before.before.before.before.before.before.args in
     let l = c.before.before.before.loop in
     sym
-    (lowest-found (mayTake a.outcap.now a.inlen.now a.outlen.now a.taken.now a.i) a.n l.j (omega arith)
+    (lowest_found (may_take a.outcap.now a.inlen.now a.outlen.now a.taken.now a.i) a.n l.j (omega arith)
     (sym c.before.may-take.ensures ∙ c.if2.true) l.invariant.1)
 
 add-j : tie.Need-overflow-add-j invariant-loop decreases-loop
@@ -56,7 +56,7 @@ loop-again : tie.Need-loop-preserved invariant-loop decreases-loop
 loop-again c = let a = c.before.before.before.before.before.before.before.before.before.args in
     let l = c.before.before.before.loop in (
       omega arith,
-      below_more (λ k. mayTake a.outcap.now a.inlen.now a.outlen.now a.taken.now a.i k ≡ false) l.j l.invariant.1
+      below_more (λ k. may_take a.outcap.now a.inlen.now a.outlen.now a.taken.now a.i k ≡ false) l.j l.invariant.1
           (sym c.before.may-take.ensures ∙ c.if2.false),
     )
 
@@ -65,7 +65,7 @@ unfolding chosen
 returns-3 c = let a = c.before.before.before.before.before.before.before.args in
     let l = c.before.loop in
     sym
-    (lowest-none (mayTake a.outcap.now a.inlen.now a.outlen.now a.taken.now a.i) a.n (λ m h. l.invariant.1 m (omega arith)))
+    (lowest_none (may_take a.outcap.now a.inlen.now a.outlen.now a.taken.now a.i) a.n (λ m h. l.invariant.1 m (omega arith)))
 
 pub pick_spec : {M : Type 1} → statement M
 pick_spec =

@@ -16,5 +16,5 @@ returns : tie.Need-returns
 unfolding place
 returns c = refl
 
-pub place-spec : {M : Type 1} → statement M
-place-spec = tie.close (tie.spec mul-result add-result returns)
+pub place_spec : {M : Type 1} → statement M
+place_spec = tie.close (tie.spec mul-result add-result returns)

@@ -3,9 +3,9 @@
 use borrow.Author.Rules.{rules}
 use native.Mathlib.Omega.{arith}
 use mathlib.Core.Path.{ap, ◌∙◌}
-use Rattle.queues.specs.Queues.{hasRoom}
+use Rattle.queues.specs.Queues.{has_room}
 use Rattle.cioq.specs.Visit.{chosen}
-use Rattle.cioq.proofs.VisitLaws.{chosen-room, stays, moves}
+use Rattle.cioq.proofs.VisitLaws.{chosen_room, stays, moves}
 use Rattle.cioq.proofs.visit.Statement.{statement}
 use Rattle.cioq.proofs.visit.Tie as tie
 
@@ -27,8 +27,8 @@ cross-requires : tie.Need-cross-requires
 cross-requires c κs = let a = c.before.before.before.before.before.before.before.before.before.before.before.before.before.args in
     let p = c.before.before.before.before.before.pick in (
       omega arith,
-      ap (hasRoom a.outcap.now a.outlen.now) p.ensures
-          ∙ chosen-room a.n a.outcap.now a.inlen.now a.outlen.now a.taken.now a.i (omega arith),
+      ap (has_room a.outcap.now a.outlen.now) p.ensures
+          ∙ chosen_room a.n a.outcap.now a.inlen.now a.outlen.now a.taken.now a.i (omega arith),
     )
 
 same-length-3 : tie.Need-same-length-3
@@ -45,8 +45,8 @@ returns-2 c = let a = c.before.before.before.before.before.before.before.before.
     let p = c.before.before.before.before.before.before.before.before.before.before.before.before.pick in
     moves a.n p.result (chosen a.n a.outcap.now a.inlen.now a.outlen.now a.taken.now a.i) p.ensures (omega arith) c.before.before.before.before.before.before.cross.ensures
 
-pub visit-spec : {M : Type 1} → statement M
-visit-spec =
+pub visit_spec : {M : Type 1} → statement M
+visit_spec =
     tie.close
     (tie.spec
     pick-requires

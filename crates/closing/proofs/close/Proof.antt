@@ -2,7 +2,7 @@
 -- Assumes nothing.
 use Prim.Native.Nat.{min}
 use lib.ListN.{take}
-use Rattle.closing.proofs.ClosingLaws.{closing-left}
+use Rattle.closing.proofs.ClosingLaws.{closing_left}
 use borrow.Author.Rules.{rules}
 use Rattle.closing.proofs.close.Statement.{statement}
 use Rattle.closing.proofs.close.Tie as tie
@@ -30,7 +30,7 @@ same-length-4 c = search rules
 
 returns : tie.Need-returns
 returns c q h = let a = c.before.before.before.before.before.before.before.before.before.before.before.before.before.before.before.before.before.before.before.before.before.before.before.before.before.before.before.args in
-    closing-left a.crossbar q (min a.ports 16) (take (min a.ports 16) a.turn.now) a.slot a.speedup a.log.now a.at (c.before.before.before.before.before.before.before.before.before.before.before.before.before.before.before.before.cycles.ensures q h) (rw c.before.before.before.before.before.before.before.ports-of.ensures at c.before.before.before.before.sendings.ensures)
+    closing_left a.crossbar q (min a.ports 16) (take (min a.ports 16) a.turn.now) a.slot a.speedup a.log.now a.at (c.before.before.before.before.before.before.before.before.before.before.before.before.before.before.before.before.cycles.ensures q h) (rw c.before.before.before.before.before.before.before.ports_of_lem.ensures at c.before.before.before.before.sendings.ensures)
 
 pub close_spec : {M : Type 1} → statement M
 close_spec =

@@ -3,7 +3,7 @@
 use Prim.Native.Nat.{min}
 use lib.ListN.{take}
 use borrow.Author.Tests.{not-true, not-false}
-use Rattle.closing.proofs.ClosingLaws.{cioq-left, crossbar-left}
+use Rattle.closing.proofs.ClosingLaws.{cioq_left, crossbar_left}
 use borrow.Author.Rules.{rules}
 use Rattle.closing.proofs.cycle.Statement.{statement}
 use Rattle.closing.proofs.cycle.Tie as tie
@@ -22,7 +22,7 @@ same-length-3 c = search rules
 
 returns : tie.Need-returns
 returns c q h = let a = c.before.before.before.before.before.before.before.before.before.before.before.before.before.before.before.before.before.args in
-    rw (not-true a.crossbar c.before.before.before.before.before.before.before.before.before.before.if1.true) (cioq-left q (min a.ports 16) (take (min a.ports 16) a.turn.now) a.slot a.cycle h c.before.before.before.before.before.before.cycle.ensures)
+    rw (not-true a.crossbar c.before.before.before.before.before.before.before.before.before.before.if1.true) (cioq_left q (min a.ports 16) (take (min a.ports 16) a.turn.now) a.slot a.cycle h c.before.before.before.before.before.before.cycle.ensures)
 
 input-part-requires : tie.Need-input-part-requires
 input-part-requires c κs = tt
@@ -48,10 +48,10 @@ same-length-7 c = search rules
 returns-2 : tie.Need-returns-2
 returns-2 c q h = let a = c.before.before.before.before.before.before.before.before.before.before.before.before.before.before.before.before.before.before.before.before.before.before.before.before.before.before.before.before.args in
     rw (not-false a.crossbar c.before.before.before.before.before.before.before.before.before.before.before.before.before.before.before.before.before.before.before.before.before.if1.false)
-    (crossbar-left q (min a.ports 16) (take (min a.ports 16) a.turn.now) a.slot a.cycle h c.before.before.before.before.before.before.before.before.before.before.before.before.before.before.before.before.before.input-part.ensures c.before.before.before.before.before.before.before.output-part.ensures c.then.ensures)
+    (crossbar_left q (min a.ports 16) (take (min a.ports 16) a.turn.now) a.slot a.cycle h c.before.before.before.before.before.before.before.before.before.before.before.before.before.before.before.before.before.input_part_lem.ensures c.before.before.before.before.before.before.before.output_part_lem.ensures c.then.ensures)
 
-pub cycle-spec : {M : Type 1} → statement M
-cycle-spec =
+pub cycle_spec : {M : Type 1} → statement M
+cycle_spec =
     tie.close
     (tie.spec
     cycle-requires

@@ -9,7 +9,7 @@ use borrow.Author.Tests.{not-true}
 use Rattle.queues.specs.declared.Queues.{Queues}
 use Rattle.queues.specs.Slot.{cycles}
 use Rattle.queues.specs.Lent.{Held, LeftAll}
-use Rattle.closing.proofs.ClosingLaws.{cycles-begun, cycles-more, cycles-idle}
+use Rattle.closing.proofs.ClosingLaws.{cycles_begun, cycles_more, cycles_idle}
 use Rattle.closing.proofs.cycles.Statement.{statement}
 use Rattle.closing.proofs.cycles.Tie as tie
 
@@ -22,7 +22,7 @@ decreases-loop crossbar ports turn speedup slot outcap crosscap inlen₀ outlen�
 
 loop-holds : tie.Need-loop-init invariant-loop decreases-loop
 loop-holds c = let a = c.before.before.before.before.before.before.args in
-    (search rules, refl, refl, refl, refl, λ q h. cycles-begun a.crossbar q (min a.ports 16) (take (min a.ports 16) a.turn.now) a.slot a.log.now a.at h)
+    (search rules, refl, refl, refl, refl, λ q h. cycles_begun a.crossbar q (min a.ports 16) (take (min a.ports 16) a.turn.now) a.slot a.log.now a.at h)
 
 cycle-requires : tie.Need-cycle-requires invariant-loop decreases-loop
 cycle-requires c κs = tt
@@ -42,7 +42,7 @@ same-length-4 c = c.before.before.before.before.before.before.before.before.befo
 returns : tie.Need-returns invariant-loop decreases-loop
 returns c q h = let a = c.before.before.before.before.before.before.before.before.before.before.before.before.before.before.before.before.before.before.before.before.before.before.args in
     let l = c.before.before.before.before.before.before.before.before.before.before.before.before.before.before.before.loop in
-    cycles-idle a.crossbar q (min a.ports 16) (take (min a.ports 16) a.turn.now) a.slot a.log.now a.at l.k h (l.invariant.5 q h) c.before.before.before.before.before.before.before.before.before.cycle.ensures a.speedup (omega arith) (omega arith) (not-true _ c.if1.true)
+    cycles_idle a.crossbar q (min a.ports 16) (take (min a.ports 16) a.turn.now) a.slot a.log.now a.at l.k h (l.invariant.5 q h) c.before.before.before.before.before.before.before.before.before.cycle.ensures a.speedup (omega arith) (omega arith) (not-true _ c.if1.true)
 
 add-k : tie.Need-overflow-add-k invariant-loop decreases-loop
 add-k c = omega arith
@@ -59,7 +59,7 @@ loop-again c = let a = c.before.before.before.before.before.before.before.before
       ◌∙◌ {b = length l.outlen} x.auto.1.1.1.1.1.1.1.1.0 l.invariant.2,
       ◌∙◌ {b = length l.crosslen} x.auto.1.1.1.1.1.1.1.1.1.0 l.invariant.3,
       ◌∙◌ {b = length l.log} x.auto.1.1.1.1.1.1.1.1.1.1.0 l.invariant.4,
-      λ q h. cycles-more a.crossbar q (min a.ports 16) (take (min a.ports 16) a.turn.now) a.slot a.log.now a.at l.k h (l.invariant.5 q h) x.ensures,
+      λ q h. cycles_more a.crossbar q (min a.ports 16) (take (min a.ports 16) a.turn.now) a.slot a.log.now a.at l.k h (l.invariant.5 q h) x.ensures,
     )
 
 same-length-5 : tie.Need-same-length-5 invariant-loop decreases-loop
@@ -80,8 +80,8 @@ returns-2 c q h = let a = c.before.before.before.before.before.before.before.bef
     let all : l.k ≡ a.speedup = omega arith in
     rw all at (l.invariant.5 q h)
 
-pub cycles-spec : {M : Type 1} → statement M
-cycles-spec =
+pub cycles_spec : {M : Type 1} → statement M
+cycles_spec =
     tie.close
     (tie.spec
     invariant-loop

@@ -2,8 +2,8 @@
 -- Assumes nothing.
 use mathlib.Core.Path.{sym, ◌∙◌}
 use borrow.Author.Tests.{not-true, not-false}
-use Rattle.queues.specs.Events.{sentAt}
-use Rattle.closing.proofs.ClosingLaws.{sends_none, sends-one}
+use Rattle.queues.specs.Events.{sent_at}
+use Rattle.closing.proofs.ClosingLaws.{sends_none, sends_one_lem}
 use borrow.Author.Rules.{rules}
 use Rattle.closing.proofs.send.Statement.{statement}
 use Rattle.closing.proofs.send.Tie as tie
@@ -34,13 +34,13 @@ same-length-3 : tie.Need-same-length-3
 same-length-3 c = search rules
 
 returns-2 : tie.Need-returns-2
-unfolding sentAt
+unfolding sent_at
 returns-2 c = let a = c.before.before.before.before.before.before.before.before.before.before.before.before.before.before.args in
-    sends-one a.outlen.now a.slot a.j a.log.now a.at (sym c.before.before.before.before.before.before.before.before.before.before.waits.ensures ∙ not-false _ c.before.before.before.before.before.before.before.before.before.if1.false)
+    sends_one_lem a.outlen.now a.slot a.j a.log.now a.at (sym c.before.before.before.before.before.before.before.before.before.before.waits.ensures ∙ not-false _ c.before.before.before.before.before.before.before.before.before.if1.false)
     c.before.before.before.before.before.before.before.leave.ensures c.before.before.before.before.word.ensures c.before.before.emit.ensures.0 c.before.before.emit.ensures.1
 
-pub send-spec : {M : Type 1} → statement M
-send-spec =
+pub send_spec : {M : Type 1} → statement M
+send_spec =
     tie.close
     (tie.spec
     waits-requires

@@ -5,11 +5,11 @@ use native.Mathlib.Omega.{arith}
 use mathlib.Core.Path.{◌≡◌, refl, ◌∙◌}
 use Prim.Native.Nat.{◌-◌, ◌≤◌}
 use lib.ListN.{length}
-use Rattle.queues.specs.Events.{logOf}
+use Rattle.queues.specs.Events.{log_of}
 use Rattle.queues.specs.Log.{logged, onward}
 use Rattle.queues.specs.Slot.{sendings, free}
 use Rattle.closing.specs.Sent.{Sent}
-use Rattle.closing.proofs.ClosingLaws.{sendings-more, sendings-done}
+use Rattle.closing.proofs.ClosingLaws.{sendings_more, sendings_done}
 use Rattle.closing.proofs.sendings.Statement.{statement}
 use Rattle.closing.proofs.sendings.Tie as tie
 
@@ -21,8 +21,8 @@ abbrev decreases-loop : tie.decreases-loop
 decreases-loop n slot outlen₀ log₀ at next₀ j₀ outlen log next j = n - j
 
 loop-holds : tie.Need-loop-init invariant-loop decreases-loop
-unfolding sendings logOf logged onward
-loop-holds c = (search rules, refl, refl, record { of-outlen = refl; of-log = refl; of_at = refl })
+unfolding sendings log_of logged onward
+loop-holds c = (search rules, refl, refl, record { of_outlen = refl; of_log = refl; of_at = refl })
 
 send-requires : tie.Need-send-requires invariant-loop decreases-loop
 send-requires c κs = tt
@@ -40,7 +40,7 @@ loop-again c = let a = c.before.before.before.before.before.before.before.before
       omega arith,
       x.auto.1.1.0 ∙ l.invariant.1,
       x.auto.1.1.1.0 ∙ l.invariant.2,
-      sendings-more a.outlen.now a.slot l.j a.log.now a.at l.invariant.3 x.ensures,
+      sendings_more a.outlen.now a.slot l.j a.log.now a.at l.invariant.3 x.ensures,
     )
 
 same_length : tie.Need-same-length invariant-loop decreases-loop
@@ -52,10 +52,10 @@ same-length-2 c = c.before.loop.invariant.2
 returns : tie.Need-returns invariant-loop decreases-loop
 returns c = let a = c.before.before.before.before.args in
     let l = c.before.loop in
-    sendings-done a.n l.j a.outlen.now a.slot (omega arith) l.invariant.3
+    sendings_done a.n l.j a.outlen.now a.slot (omega arith) l.invariant.3
 
-pub sendings-spec : {M : Type 1} → statement M
-sendings-spec =
+pub sendings_spec : {M : Type 1} → statement M
+sendings_spec =
     tie.close
     (tie.spec
     invariant-loop

@@ -62,8 +62,8 @@ returns : tie.Need-returns invariant-loop decreases-loop
 returns c = let l = c.before.loop in
     (l.invariant.1, λ j h z. let said = l.invariant.2 j h z in (said.0, said.1 (omega arith)))
 
-pub add-row-spec : {M : Type 1} → statement M
-add-row-spec =
+pub add_row_spec : {M : Type 1} → statement M
+add_row_spec =
     tie.close
     (tie.spec
     invariant-loop

@@ -6,7 +6,7 @@ use Prim.Native.Nat.{ℕ, ◌-◌, ◌≤◌}
 use native.Mathlib.Nat.{not-suc-le-zero}
 use mathlib.Core.Path.{◌≡◌, refl}
 use lib.ListN.{length, get_or-replicate}
-use Rattle.crossbar.proofs.ColumnsLaws.{SaidOf, row_more, all-rows}
+use Rattle.crossbar.proofs.ColumnsLaws.{SaidOf, row_more, all_rows}
 use Rattle.crossbar.proofs.columns.Statement.{statement}
 use Rattle.crossbar.proofs.columns.Tie as tie
 
@@ -39,7 +39,7 @@ loop-again c = let a = c.before.before.before.before.before.before.args in
 returns-2 : tie.Need-returns-2 invariant-loop decreases-loop
 returns-2 c = let a = c.before.before.before.before.args in
     let l = c.before.loop in
-    all-rows a.crosslen.now l.bits l.i c.before.before.if1.false (omega arith) l.invariant.2
+    all_rows a.crosslen.now l.bits l.i c.before.before.if1.false (omega arith) l.invariant.2
 
 pub columns_spec : {M : Type 1} → statement M
 columns_spec =

@@ -1,8 +1,8 @@
 -- `crossbar::cross` meets its contract.
 -- Assumes nothing.
 use mathlib.Core.Path.{refl}
-use Rattle.queues.specs.Events.{crossedAt}
-use Rattle.crossbar.proofs.CrossbarLaws.{room-there, cross-moves, cross-stays}
+use Rattle.queues.specs.Events.{crossed_at}
+use Rattle.crossbar.proofs.CrossbarLaws.{room_there, cross_moves, cross_stays}
 use borrow.Author.Rules.{rules}
 use Rattle.crossbar.proofs.cross.Statement.{statement}
 use Rattle.crossbar.proofs.cross.Tie as tie
@@ -16,7 +16,7 @@ place-requires c κs = tt
 shift-requires : tie.Need-shift-requires
 shift-requires c κs = let a = c.before.before.before.before.before.before.before.before.before.before.before.before.args in
     let x = c.before.before.before.before.before.crossing in
-    rw c.before.place.ensures (room-there a.n a.crosscap.now a.inlen.now a.crosslen.now a.slot a.cycle a.i x.result x.ensures c.before.before.before.before.if1.true)
+    rw c.before.place.ensures (room_there a.n a.crosscap.now a.inlen.now a.crosslen.now a.slot a.cycle a.i x.result x.ensures c.before.before.before.before.if1.true)
 
 same_length : tie.Need-same-length
 same_length c = c.before.before.before.before.before.before.shift.auto.1.1.1.1.1.0
@@ -28,10 +28,10 @@ same-length-3 : tie.Need-same-length-3
 same-length-3 c = c.before.before.before.before.before.before.shift.auto.1.1.1.1.1.1.1.1.1.0
 
 returns : tie.Need-returns
-unfolding crossedAt
+unfolding crossed_at
 returns c = let a = c.before.before.before.before.before.before.before.before.before.before.before.before.before.before.before.before.before.before.before.args in
     let x = c.before.before.before.before.before.before.before.before.before.before.before.before.crossing in
-    cross-moves a.n a.crosscap.now a.inlen.now a.crosslen.now a.slot a.cycle a.i x.result x.ensures c.before.before.before.before.before.before.before.before.before.before.before.if1.true c.before.before.before.before.before.before.before.before.place.ensures c.before.before.before.before.before.before.shift.ensures
+    cross_moves a.n a.crosscap.now a.inlen.now a.crosslen.now a.slot a.cycle a.i x.result x.ensures c.before.before.before.before.before.before.before.before.before.before.before.if1.true c.before.before.before.before.before.before.before.before.place.ensures c.before.before.before.before.before.before.shift.ensures
 
 same-length-4 : tie.Need-same-length-4
 same-length-4 c = refl
@@ -42,10 +42,10 @@ same-length-5 c = refl
 returns-2 : tie.Need-returns-2
 returns-2 c = let a = c.before.before.before.before.before.before.before.before.args in
     let x = c.before.crossing in
-    cross-stays a.n a.crosscap.now a.inlen.now a.crosslen.now a.slot a.cycle a.i x.result x.ensures c.if1.false a.log.now a.at
+    cross_stays a.n a.crosscap.now a.inlen.now a.crosslen.now a.slot a.cycle a.i x.result x.ensures c.if1.false a.log.now a.at
 
-pub cross-spec : {M : Type 1} → statement M
-cross-spec =
+pub cross_spec : {M : Type 1} → statement M
+cross_spec =
     tie.close
     (tie.spec
     crossing-requires

@@ -8,17 +8,17 @@ use native.Mathlib.Nat.{not-suc-le-zero}
 use mathlib.Core.Bool.{Bool, false, ◌&&◌}
 use mathlib.Core.List.{List}
 use borrow.Author.Count.{below_more}
-use Rattle.base.proofs.Lowest.{lowest-found, lowest-none}
-use Rattle.queues.specs.Queues.{place, waits, hasRoom}
+use Rattle.base.proofs.Lowest.{lowest_found, lowest_none}
+use Rattle.queues.specs.Queues.{place, waits, has_room}
 use Rattle.queues.specs.Flow.{still}
 use Rattle.queues.specs.Crossbar.{crossing}
-use Rattle.queues.proofs.EmptyLaws.{row-none}
+use Rattle.queues.proofs.EmptyLaws.{row_none}
 use Rattle.crossbar.proofs.crossing.Statement.{statement}
 use Rattle.crossbar.proofs.crossing.Tie as tie
 
 -- whether a packet of input i can move to crosspoint (i, j)
 abbrev can : ℕ → List ℕ → List ℕ → List ℕ → ℕ → Bool
-can i crosscap inlen crosslen j = waits inlen (place i j) && hasRoom crosscap crosslen (place i j)
+can i crosscap inlen crosslen j = waits inlen (place i j) && has_room crosscap crosslen (place i j)
 
 abbrev invariant-loop : tie.invariant-loop
 invariant-loop ports i crosscap inlen crosslen j₀ j = (j ≤ ports) × ((m : ℕ) → m < j → can i crosscap inlen crosslen m ≡ false)
@@ -34,8 +34,8 @@ returns : tie.Need-returns invariant-loop decreases-loop
 unfolding crossing still
 returns c = let a = c.before.before.before.before.before.args in
     sym
-    (lowest-none (can a.i a.crosscap.now a.inlen.now a.crosslen.now) a.ports
-    (λ m h. rw (row-none a.inlen.now a.i (sym c.before.row-empty.ensures ∙ c.if1.true) m (omega arith))))
+    (lowest_none (can a.i a.crosscap.now a.inlen.now a.crosslen.now) a.ports
+    (λ m h. rw (row_none a.inlen.now a.i (sym c.before.row-empty.ensures ∙ c.if1.true) m (omega arith))))
 
 loop-holds : tie.Need-loop-init invariant-loop decreases-loop
 loop-holds c = (search rules, λ m h. absurd (not-suc-le-zero h))
@@ -53,7 +53,7 @@ both-requires : tie.Need-both-requires invariant-loop decreases-loop
 both-requires c κs = tt
 
 -- what the call found
-tested : (i j k : ℕ) (crosscap inlen crosslen : List ℕ) (w h b : Bool) → k ≡ place i j → w ≡ waits inlen k → h ≡ hasRoom crosscap crosslen k → b ≡ (w && h) → can i crosscap inlen crosslen j ≡ b
+tested : (i j k : ℕ) (crosscap inlen crosslen : List ℕ) (w h b : Bool) → k ≡ place i j → w ≡ waits inlen k → h ≡ has_room crosscap crosslen k → b ≡ (w && h) → can i crosscap inlen crosslen j ≡ b
 tested i j k crosscap inlen crosslen w h b e f g d = cc
 
 here : (c : tie.After-both invariant-loop decreases-loop) → can c.before.before.before.before.before.before.before.before.before.before.before.args.i c.before.before.before.before.before.before.before.before.before.before.before.args.crosscap.now c.before.before.before.before.before.before.before.before.before.before.before.args.inlen.now c.before.before.before.before.before.before.before.before.before.before.before.args.crosslen.now c.before.before.before.before.before.loop.j ≡ c.both.result
@@ -63,7 +63,7 @@ returns-2 : tie.Need-returns-2 invariant-loop decreases-loop
 unfolding crossing still
 returns-2 c = let a = c.before.before.before.before.before.before.before.before.before.before.before.before.args in
     let l = c.before.before.before.before.before.before.loop in
-    sym (lowest-found (can a.i a.crosscap.now a.inlen.now a.crosslen.now) a.ports l.j (omega arith) (here c.before ∙ c.if2.true) l.invariant.1)
+    sym (lowest_found (can a.i a.crosscap.now a.inlen.now a.crosslen.now) a.ports l.j (omega arith) (here c.before ∙ c.if2.true) l.invariant.1)
 
 add-j : tie.Need-overflow-add-j invariant-loop decreases-loop
 add-j c = omega arith
@@ -82,10 +82,10 @@ returns-3 : tie.Need-returns-3 invariant-loop decreases-loop
 unfolding crossing still
 returns-3 c = let a = c.before.before.before.before.before.before.before.args in
     let l = c.before.loop in
-    sym (lowest-none (can a.i a.crosscap.now a.inlen.now a.crosslen.now) a.ports (λ m h. l.invariant.1 m (omega arith)))
+    sym (lowest_none (can a.i a.crosscap.now a.inlen.now a.crosslen.now) a.ports (λ m h. l.invariant.1 m (omega arith)))
 
-pub crossing-spec : {M : Type 1} → statement M
-crossing-spec =
+pub crossing_spec : {M : Type 1} → statement M
+crossing_spec =
     tie.close
     (tie.spec
     invariant-loop

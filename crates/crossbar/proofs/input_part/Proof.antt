@@ -20,9 +20,9 @@ same-length-3 : tie.Need-same-length-3
 same-length-3 c = c.before.before.before.before.before.before.inputs.auto.1.1.1.1.1.1.1.0
 
 returns : tie.Need-returns
-returns c = rw c.before.before.before.before.before.before.before.before.before.before.before.ports-of.ensures at c.before.before.before.before.before.before.inputs.ensures
+returns c = rw c.before.before.before.before.before.before.before.before.before.before.before.ports_of_lem.ensures at c.before.before.before.before.before.before.inputs.ensures
 
-pub input-part-spec : {M : Type 1} → statement M
-input-part-spec =
+pub input_part_spec : {M : Type 1} → statement M
+input_part_spec =
     tie.close
     (tie.spec ports-of-requires inputs-requires same_length same-length-2 same-length-3 returns)

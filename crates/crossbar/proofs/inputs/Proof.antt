@@ -8,8 +8,8 @@ use lib.ListN.{length, take}
 use lib.Seq.{get_or-take}
 use Rattle.queues.specs.Lent.{Left}
 use Rattle.queues.specs.Crossbar.{crossings}
-use Rattle.crossbar.proofs.LeftLaws.{left-still}
-use Rattle.crossbar.proofs.CrossbarLaws.{first-length, input-more, all-inputs}
+use Rattle.crossbar.proofs.LeftLaws.{left_still}
+use Rattle.crossbar.proofs.CrossbarLaws.{first_length, input_more, all_inputs}
 use Rattle.crossbar.proofs.inputs.Statement.{statement}
 use Rattle.crossbar.proofs.inputs.Tie as tie
 
@@ -23,7 +23,7 @@ decreases-loop n turn slot cycle crosscap inlen₀ crosslen₀ log₀ at done₀
 loop-holds : tie.Need-loop-init invariant-loop decreases-loop
 unfolding crossings
 loop-holds c = let a = c.before.before.before.before.before.args in
-    (search rules, refl, refl, refl, left-still a.inlen.now a.crosslen.now a.log.now a.at)
+    (search rules, refl, refl, refl, left_still a.inlen.now a.crosslen.now a.log.now a.at)
 
 cast-i : tie.Need-overflow-cast-i invariant-loop decreases-loop
 cast-i c = omega arith
@@ -54,7 +54,7 @@ loop-again c = let a = c.before.before.before.before.before.before.before.before
       x.auto.1.1.1.1.1.0 ∙ l.invariant.1,
       x.auto.1.1.1.1.1.1.0 ∙ l.invariant.2,
       x.auto.1.1.1.1.1.1.1.0 ∙ l.invariant.3,
-      input-more a.n (take a.n a.turn.now) a.crosscap.now a.inlen.now a.crosslen.now a.slot a.cycle l.u l.invariant.4
+      input_more a.n (take a.n a.turn.now) a.crosscap.now a.inlen.now a.crosslen.now a.slot a.cycle l.u l.invariant.4
           (rw (get_or-take a.n a.turn.now l.u 0 (omega arith)) x.ensures) c.then.ensures,
     )
 
@@ -70,11 +70,11 @@ same-length-3 c = c.before.loop.invariant.3
 returns : tie.Need-returns invariant-loop decreases-loop
 returns c = let a = c.before.before.before.before.before.before.before.args in
     let l = c.before.loop in
-    let all = first-length a.n a.turn.now (omega arith) in
-    all-inputs a.n l.u (take a.n a.turn.now) a.crosscap.now a.inlen.now a.crosslen.now a.slot a.cycle (omega (arith, all)) l.invariant.4
+    let all = first_length a.n a.turn.now (omega arith) in
+    all_inputs a.n l.u (take a.n a.turn.now) a.crosscap.now a.inlen.now a.crosslen.now a.slot a.cycle (omega (arith, all)) l.invariant.4
 
-pub inputs-spec : {M : Type 1} → statement M
-inputs-spec =
+pub inputs_spec : {M : Type 1} → statement M
+inputs_spec =
     tie.close
     (tie.spec
     invariant-loop

@@ -9,9 +9,9 @@ use mathlib.Core.Bool.{Bool, false}
 use mathlib.Core.List.{List}
 use lib.ListN.{get_or}
 use borrow.Author.Count.{below_more}
-use Rattle.base.proofs.Lowest.{lowest-found, lowest-none}
+use Rattle.base.proofs.Lowest.{lowest_found, lowest_none}
 use Rattle.queues.specs.Queues.{place, waits}
-use Rattle.crossbar.proofs.CrossbarLaws.{outmover-is}
+use Rattle.crossbar.proofs.CrossbarLaws.{outmover_is}
 use Rattle.crossbar.proofs.outmover.Statement.{statement}
 use Rattle.crossbar.proofs.outmover.Tie as tie
 
@@ -53,8 +53,8 @@ here c = tested _ _ _ _ _ c.before.place.ensures c.waits.ensures
 returns : tie.Need-returns invariant-loop decreases-loop
 returns c = let a = c.before.before.before.before.before.before.before.before.args in
     let l = c.before.before.before.before.before.loop in
-    sym (outmover-is a.n a.turn.now (omega arith) a.crosslen.now a.j
-    ∙ lowest-found (has a.turn.now a.crosslen.now a.j) a.n l.u (omega arith) (here c.before ∙ c.if1.true) l.invariant.1)
+    sym (outmover_is a.n a.turn.now (omega arith) a.crosslen.now a.j
+    ∙ lowest_found (has a.turn.now a.crosslen.now a.j) a.n l.u (omega arith) (here c.before ∙ c.if1.true) l.invariant.1)
 
 add-u : tie.Need-overflow-add-u invariant-loop decreases-loop
 add-u c = omega arith
@@ -72,11 +72,11 @@ loop-again c = let a = c.before.before.before.before.before.before.before.before
 returns-2 : tie.Need-returns-2 invariant-loop decreases-loop
 returns-2 c = let a = c.before.before.before.before.args in
     let l = c.before.loop in
-    sym (outmover-is a.n a.turn.now (omega arith) a.crosslen.now a.j
-    ∙ lowest-none (has a.turn.now a.crosslen.now a.j) a.n (λ m h. l.invariant.1 m (omega arith)))
+    sym (outmover_is a.n a.turn.now (omega arith) a.crosslen.now a.j
+    ∙ lowest_none (has a.turn.now a.crosslen.now a.j) a.n (λ m h. l.invariant.1 m (omega arith)))
 
-pub outmover-spec : {M : Type 1} → statement M
-outmover-spec =
+pub outmover_spec : {M : Type 1} → statement M
+outmover_spec =
     tie.close
     (tie.spec
     invariant-loop

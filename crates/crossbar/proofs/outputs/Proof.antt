@@ -9,9 +9,9 @@ use borrow.Author.Tests.{eqb-true}
 use Rattle.queues.specs.Queues.{place}
 use Rattle.queues.specs.Lent.{Left}
 use Rattle.queues.specs.Crossbar.{outmoves}
-use Rattle.crossbar.proofs.LeftLaws.{left-still}
-use Rattle.crossbar.proofs.ColumnsLaws.{stays-empty}
-use Rattle.crossbar.proofs.CrossbarLaws.{output-more, all-outputs}
+use Rattle.crossbar.proofs.LeftLaws.{left_still}
+use Rattle.crossbar.proofs.ColumnsLaws.{stays_empty}
+use Rattle.crossbar.proofs.CrossbarLaws.{output_more, all_outputs}
 use Rattle.crossbar.proofs.outputs.Statement.{statement}
 use Rattle.crossbar.proofs.outputs.Tie as tie
 
@@ -28,7 +28,7 @@ columns-requires c κs = tt
 loop-holds : tie.Need-loop-init invariant-loop decreases-loop
 unfolding outmoves
 loop-holds c = let a = c.before.before.before.before.before.before.before.args in
-    (search rules, refl, refl, refl, left-still a.crosslen.now a.outlen.now a.log.now a.at)
+    (search rules, refl, refl, refl, left_still a.crosslen.now a.outlen.now a.log.now a.at)
 
 cast-outmove : tie.Need-overflow-cast-outmove invariant-loop decreases-loop
 cast-outmove c = omega arith
@@ -45,7 +45,7 @@ outmove-requires c κs = let a = c.before.before.before.before.before.before.bef
     let x = c.before.before.before.before.before.columns in
     let l = c.before.before.before.before.loop in (
       omega arith,
-      λ t i. stays-empty (take a.n a.turn.now) a.outcap.now a.crosslen.now a.outlen.now a.slot a.cycle l.j (place i l.j) l.invariant.4.of-from
+      λ t i. stays_empty (take a.n a.turn.now) a.outcap.now a.crosslen.now a.outlen.now a.slot a.cycle l.j (place i l.j) l.invariant.4.of_from
           (x.ensures i l.j (omega arith) (eqb-true (get_or x.result l.j 0) 0 t)),
     )
 
@@ -66,7 +66,7 @@ loop-again c = let a = c.before.before.before.before.before.before.before.before
       x.auto.1.1.1.1.1.1.0 ∙ l.invariant.1,
       x.auto.1.1.1.1.1.1.1.0 ∙ l.invariant.2,
       x.auto.1.1.1.1.1.1.1.1.0 ∙ l.invariant.3,
-      output-more (take a.n a.turn.now) a.outcap.now a.crosslen.now a.outlen.now a.slot a.cycle l.j l.invariant.4 x.ensures c.then.ensures,
+      output_more (take a.n a.turn.now) a.outcap.now a.crosslen.now a.outlen.now a.slot a.cycle l.j l.invariant.4 x.ensures c.then.ensures,
     )
 
 same_length : tie.Need-same-length invariant-loop decreases-loop
@@ -81,10 +81,10 @@ same-length-3 c = c.before.loop.invariant.3
 returns : tie.Need-returns invariant-loop decreases-loop
 returns c = let a = c.before.before.before.before.before.before.before.before.before.args in
     let l = c.before.loop in
-    all-outputs a.n l.j (take a.n a.turn.now) a.outcap.now a.crosslen.now a.outlen.now a.slot a.cycle (omega arith) l.invariant.4
+    all_outputs a.n l.j (take a.n a.turn.now) a.outcap.now a.crosslen.now a.outlen.now a.slot a.cycle (omega arith) l.invariant.4
 
-pub outputs-spec : {M : Type 1} → statement M
-outputs-spec =
+pub outputs_spec : {M : Type 1} → statement M
+outputs_spec =
     tie.close
     (tie.spec
     invariant-loop

@@ -35,8 +35,8 @@ returns c = let a = c.before.before.before.before.before.before.before.before.be
     left_one a.from.now a.to.now a.log.now a.cap.now (place a.i a.j) a.m a.at (record { kind = a.kind; slot = a.slot; cycle = a.cycle; input = a.i; output = a.j }) c.before.before.before.before.before.before.before.before.before.before.before.before.before.before.before.before.before.before.requires
     c.before.before.before.before.before.before.before.before.before.before.before.before.place.ensures c.before.before.before.before.before.before.before.before.before.before.before.leave.ensures c.before.before.before.before.before.before.before.join.ensures c.before.before.before.before.word.ensures c.before.before.emit.ensures.0 c.before.before.emit.ensures.1
 
-pub shift-spec : {M : Type 1} → statement M
-shift-spec =
+pub shift_spec : {M : Type 1} → statement M
+shift_spec =
     tie.close
     (tie.spec
     place-requires

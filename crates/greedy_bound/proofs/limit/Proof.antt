@@ -3,7 +3,7 @@
 use native.Mathlib.Omega.{arith}
 use mathlib.Core.Path.{sym, ◌∙◌}
 use borrow.Author.Rules.{rules}
-use Rattle.greedy_bound.proofs.LimitLaws.{counted, limit-refused, limit-found}
+use Rattle.greedy_bound.proofs.LimitLaws.{counted, limit_refused, limit_found}
 use Rattle.greedy_bound.proofs.limit.Statement.{statement}
 use Rattle.greedy_bound.proofs.limit.Tie as tie
 
@@ -11,7 +11,7 @@ refusal-requires : tie.Need-refusal-requires
 refusal-requires c κs = search rules
 
 returns : tie.Need-returns
-returns c = limit-refused c.before.before.args.s c.before.refusal.result c.before.refusal.ensures c.if1.true
+returns c = limit_refused c.before.before.args.s c.before.refusal.result c.before.refusal.ensures c.if1.true
 
 sub-standing : tie.Need-overflow-sub-standing
 sub-standing c = (counted c.before.before.before.args.s (sym c.before.before.refusal.ensures ∙ c.before.if1.false)).moved
@@ -28,7 +28,7 @@ add-t7 c = omega (arith, counted c.before.before.before.before.args.s (sym c.bef
 returns-2 : tie.Need-returns-2
 returns-2 c =
     let none = sym c.before.before.before.refusal.ensures ∙ c.before.before.if1.false in
-    limit-found c.before.before.before.before.args.s _ none (omega (arith, counted c.before.before.before.before.args.s none))
+    limit_found c.before.before.before.before.args.s _ none (omega (arith, counted c.before.before.before.before.args.s none))
 
-pub limit-spec : {M : Type 1} → statement M
-limit-spec = tie.close (tie.spec refusal-requires returns sub-standing mul-t5 mul-t6 add-t7 returns-2)
+pub limit_spec : {M : Type 1} → statement M
+limit_spec = tie.close (tie.spec refusal-requires returns sub-standing mul-t5 mul-t6 add-t7 returns-2)

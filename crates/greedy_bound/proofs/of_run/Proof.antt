@@ -1,7 +1,7 @@
 -- `greedy_bound::of_run` meets its contract.
 -- Assumes nothing.
 use borrow.Author.Rules.{rules}
-use Rattle.greedy_bound.specs.Answer.{limitsOf}
+use Rattle.greedy_bound.specs.Answer.{limits_of}
 use Rattle.greedy_bound.proofs.of_run.Statement.{statement}
 use Rattle.greedy_bound.proofs.of_run.Tie as tie
 
@@ -27,8 +27,8 @@ mul-t8 : tie.Need-overflow-mul-t8
 mul-t8 c = search rules
 
 returns : tie.Need-returns
-unfolding limitsOf
+unfolding limits_of
 returns c = rw c.before.before.less.ensures
 
-pub of-run-spec : {M : Type 1} → statement M
-of-run-spec = tie.close (tie.spec less-requires cast-t3 cast-t4 mul-t5 add-t6 cast-t7 mul-t8 returns)
+pub of_run_spec : {M : Type 1} → statement M
+of_run_spec = tie.close (tie.spec less-requires cast-t3 cast-t4 mul-t5 add-t6 cast-t7 mul-t8 returns)

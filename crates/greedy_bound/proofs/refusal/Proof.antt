@@ -3,7 +3,7 @@
 use borrow.Author.Rules.{rules}
 use mathlib.Core.Path.{◌∙◌, ap₂}
 use Rattle.base.specs.Refusal.{◌⨟◌}
-use Rattle.greedy_bound.specs.Answer.{limitRefusal}
+use Rattle.greedy_bound.specs.Answer.{limit_refusal}
 use Rattle.greedy_bound.proofs.refusal.Statement.{statement}
 use Rattle.greedy_bound.proofs.refusal.Tie as tie
 
@@ -17,8 +17,8 @@ first-requires : tie.Need-first-requires
 first-requires c κs = search rules
 
 returns : tie.Need-returns
-unfolding limitRefusal
+unfolding limit_refusal
 returns c = c.first.ensures ∙ ap₂ ◌⨟◌ c.before.before.before.refusal.ensures c.before.unless.ensures
 
-pub refusal-spec : {M : Type 1} → statement M
-refusal-spec = tie.close (tie.spec refusal-requires unless-requires first-requires returns)
+pub refusal_spec : {M : Type 1} → statement M
+refusal_spec = tie.close (tie.spec refusal-requires unless-requires first-requires returns)

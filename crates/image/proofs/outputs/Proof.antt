@@ -50,8 +50,8 @@ returns c = let a = c.before.before.before.args in
     let l = c.before.loop in
     fill_done (λ m. get_or a.state.now (a.from + m) 0) 16 l.places l.k (omega arith) l.invariant.1 l.invariant.2
 
-pub outputs-spec : {M : Type 1} → statement M
-outputs-spec =
+pub outputs_spec : {M : Type 1} → statement M
+outputs_spec =
     tie.close
     (tie.spec
     invariant-loop

@@ -50,8 +50,8 @@ returns c = let a = c.before.before.before.args in
     let l = c.before.loop in
     fill_done (λ m. get_or a.state.now (a.from + m) 0) 256 l.places l.k (omega arith) l.invariant.1 l.invariant.2
 
-pub pairs-spec : {M : Type 1} → statement M
-pairs-spec =
+pub pairs_spec : {M : Type 1} → statement M
+pairs_spec =
     tie.close
     (tie.spec
     invariant-loop

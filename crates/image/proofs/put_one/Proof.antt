@@ -21,5 +21,5 @@ returns c = search rules
 returns-2 : tie.Need-returns-2
 returns-2 c = sym (set_out c.before.args.state.now c.before.args.p c.before.args.v c.if1.false)
 
-pub put-one-spec : {M : Type 1} → statement M
-put-one-spec = tie.close (tie.spec mul-state slice-write-state same_length returns returns-2)
+pub put_one_spec : {M : Type 1} → statement M
+put_one_spec = tie.close (tie.spec mul-state slice-write-state same_length returns returns-2)

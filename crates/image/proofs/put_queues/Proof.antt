@@ -1,7 +1,7 @@
 -- `image::put_queues` meets its contract: the capacities and then the lengths.
 -- Assumes nothing.
 use borrow.Author.Rules.{rules}
-use Rattle.image.proofs.ImageLaws.{queues-stored}
+use Rattle.image.proofs.ImageLaws.{queues_stored}
 use Rattle.image.proofs.put_queues.Statement.{statement}
 use Rattle.image.proofs.put_queues.Tie as tie
 
@@ -17,7 +17,7 @@ same_length c = search rules
 returns : tie.Need-returns
 returns c =
     let a = c.before.before.before.before.before.before.before.before.before.before.before.before.before.before.before.args in
-    queues-stored a.state.now _ _ a.q c.before.before.before.before.before.before.put_three.ensures c.before.before.put-three2.ensures (search rules) (search rules) (search rules)
+    queues_stored a.state.now _ _ a.q c.before.before.before.before.before.before.put_three.ensures c.before.before.put-three2.ensures (search rules) (search rules) (search rules)
 
-pub put-queues-spec : {M : Type 1} → statement M
-put-queues-spec = tie.close (tie.spec put-three-requires put-three-requires-2 same_length returns)
+pub put_queues_spec : {M : Type 1} → statement M
+put_queues_spec = tie.close (tie.spec put-three-requires put-three-requires-2 same_length returns)

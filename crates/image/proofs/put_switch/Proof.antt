@@ -1,8 +1,8 @@
 -- `image::put_switch` meets its contract: the ten numbers and then the queues.
 -- Assumes nothing.
 use borrow.Author.Rules.{rules}
-use Rattle.image.specs.Image.{numbersOf}
-use Rattle.image.proofs.ImageLaws.{image-stored}
+use Rattle.image.specs.Image.{numbers_of}
+use Rattle.image.proofs.ImageLaws.{image_stored}
 use Rattle.image.proofs.put_switch.Statement.{statement}
 use Rattle.image.proofs.put_switch.Tie as tie
 
@@ -19,11 +19,11 @@ same_length : tie.Need-same-length
 same_length c = search rules
 
 returns : tie.Need-returns
-unfolding numbersOf
+unfolding numbers_of
 returns c =
     let a = c.before.before.before.before.before.before.before.before.before.before.before.args in
-    image-stored a.state.now _ _ a.s c.before.before.before.before.before.before.before.put.ensures c.before.before.put-queues.ensures
+    image_stored a.state.now _ _ a.s c.before.before.before.before.before.before.before.put.ensures c.before.before.put-queues.ensures
 
-pub put-switch-spec : {M : Type 1} → statement M
-put-switch-spec =
+pub put_switch_spec : {M : Type 1} → statement M
+put_switch_spec =
     tie.close (tie.spec slice-aggregate-put put-requires put-queues-requires same_length returns)

@@ -1,7 +1,7 @@
 -- `image::put_three` meets its contract: three lists stand one after the other.
 -- Assumes nothing.
 use borrow.Author.Rules.{rules}
-use Rattle.image.proofs.ImageLaws.{three-stored}
+use Rattle.image.proofs.ImageLaws.{three_stored}
 use Rattle.image.proofs.put_three.Statement.{statement}
 use Rattle.image.proofs.put_three.Tie as tie
 
@@ -35,10 +35,10 @@ same_length c = search rules
 returns : tie.Need-returns
 returns c =
     let a = c.before.before.before.before.before.before.before.before.before.before.before.before.before.before.before.before.args in
-    three-stored a.state.now _ _ _ a.at a.t3 a.t4 a.t5 c.before.before.before.before.before.before.before.before.before.before.before.before.put.ensures c.before.before.before.before.before.before.before.put2.ensures c.before.before.put3.ensures (search rules) (search rules)
+    three_stored a.state.now _ _ _ a.at a.t3 a.t4 a.t5 c.before.before.before.before.before.before.before.before.before.before.before.before.put.ensures c.before.before.before.before.before.before.before.put2.ensures c.before.before.put3.ensures (search rules) (search rules)
 
-pub put-three-spec : {M : Type 1} → statement M
-put-three-spec =
+pub put_three_spec : {M : Type 1} → statement M
+put_three_spec =
     tie.close
     (tie.spec
     slice-aggregate-put

@@ -1,7 +1,7 @@
 -- `image::queues_of` meets its contract.
 -- Assumes nothing.
 use borrow.Author.Rules.{rules}
-use Rattle.image.proofs.ImageLaws.{queues-read}
+use Rattle.image.proofs.ImageLaws.{queues_read}
 use Rattle.image.proofs.queues_of.Statement.{statement}
 use Rattle.image.proofs.queues_of.Tie as tie
 
@@ -25,12 +25,12 @@ pairs-requires-4 c κs = search rules
 
 returns : tie.Need-returns
 returns c =
-    queues-read c.before.before.before.before.before.before.before.args.state.now _ _ _ _ _ _
+    queues_read c.before.before.before.before.before.before.before.args.state.now _ _ _ _ _ _
     c.before.before.before.before.before.pairs.ensures c.before.before.before.before.outputs.ensures c.before.before.before.pairs2.ensures
     c.before.before.pairs3.ensures c.before.outputs2.ensures c.pairs4.ensures
 
-pub queues-of-spec : {M : Type 1} → statement M
-queues-of-spec =
+pub queues_of_spec : {M : Type 1} → statement M
+queues_of_spec =
     tie.close
     (tie.spec
     pairs-requires

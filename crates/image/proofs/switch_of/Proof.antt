@@ -1,7 +1,7 @@
 -- `image::switch_of` meets its contract.
 -- Assumes nothing.
 use borrow.Author.Rules.{rules}
-use Rattle.image.proofs.ImageLaws.{switch-read}
+use Rattle.image.proofs.ImageLaws.{switch_read}
 use Rattle.image.proofs.switch_of.Statement.{statement}
 use Rattle.image.proofs.switch_of.Tie as tie
 
@@ -40,14 +40,14 @@ queues-of-requires c κs = search rules
 
 returns : tie.Need-returns
 returns c =
-    switch-read c.before.before.before.before.before.before.before.before.before.before.before.before.args.state.now _ _ _ _ _ _ _ _ _ _ _
+    switch_read c.before.before.before.before.before.before.before.before.before.before.before.before.args.state.now _ _ _ _ _ _ _ _ _ _ _
     c.before.before.before.before.before.before.before.before.before.before.number_at.ensures c.before.before.before.before.before.before.before.before.before.number-at2.ensures
     c.before.before.before.before.before.before.before.before.number-at3.ensures c.before.before.before.before.before.before.before.number-at4.ensures
     c.before.before.before.before.before.before.number-at5.ensures c.before.before.before.before.before.number-at6.ensures
     c.before.before.before.before.number-at7.ensures c.before.before.before.number-at8.ensures c.before.before.number-at9.ensures c.before.number-at10.ensures c.queues-of.ensures
 
-pub switch-of-spec : {M : Type 1} → statement M
-switch-of-spec =
+pub switch_of_spec : {M : Type 1} → statement M
+switch_of_spec =
     tie.close
     (tie.spec
     number-at-requires

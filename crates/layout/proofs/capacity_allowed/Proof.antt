@@ -1,7 +1,7 @@
 -- `layout::capacity_allowed` meets its contract.
 -- Assumes nothing.
 use borrow.Author.Rules.{rules}
-use Rattle.layout.specs.Tables.{capacityAllowed}
+use Rattle.layout.specs.Tables.{capacity_allowed}
 use Rattle.layout.proofs.capacity_allowed.Statement.{statement}
 use Rattle.layout.proofs.capacity_allowed.Tie as tie
 
@@ -9,8 +9,8 @@ both-requires : tie.Need-both-requires
 both-requires c κs = search rules
 
 returns : tie.Need-returns
-unfolding capacityAllowed
+unfolding capacity_allowed
 returns c = c.both.ensures
 
-pub capacity-allowed-spec : {M : Type 1} → statement M
-capacity-allowed-spec = tie.close (tie.spec both-requires returns)
+pub capacity_allowed_spec : {M : Type 1} → statement M
+capacity_allowed_spec = tie.close (tie.spec both-requires returns)

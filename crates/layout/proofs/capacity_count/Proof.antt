@@ -3,7 +3,7 @@
 use borrow.Author.Rules.{rules}
 use native.Mathlib.Omega.{arith}
 use borrow.Author.Tests.{eq-eqb, ne_eqb}
-use Rattle.layout.specs.Header.{capacityCount, hasCrosspoints}
+use Rattle.layout.specs.Header.{capacity_count, has_crosspoints}
 use Rattle.layout.proofs.HeaderLaws.{pairs}
 use Rattle.layout.proofs.capacity_count.Statement.{statement}
 use Rattle.layout.proofs.capacity_count.Tie as tie
@@ -24,7 +24,7 @@ add-result-2 : tie.Need-overflow-add-result-2
 add-result-2 c = omega (arith, pairs c.before.before.before.args.h c.before.before.before.requires)
 
 returns : tie.Need-returns
-unfolding capacityCount hasCrosspoints
+unfolding capacity_count has_crosspoints
 returns c = simp (eq-eqb _ _ c.if1.true) (omega (arith, pairs c.before.before.before.args.h c.before.before.before.requires))
 
 mul-result-3 : tie.Need-overflow-mul-result-3
@@ -34,11 +34,11 @@ add-result-3 : tie.Need-overflow-add-result-3
 add-result-3 c = omega (arith, pairs c.before.before.before.args.h c.before.before.before.requires)
 
 returns-2 : tie.Need-returns-2
-unfolding capacityCount hasCrosspoints
+unfolding capacity_count has_crosspoints
 returns-2 c = simp (ne_eqb _ _ c.if1.false) (omega (arith, pairs c.before.before.before.args.h c.before.before.before.requires))
 
-pub capacity-count-spec : {M : Type 1} → statement M
-capacity-count-spec =
+pub capacity_count_spec : {M : Type 1} → statement M
+capacity_count_spec =
     tie.close
     (tie.spec
     cast-n

@@ -2,7 +2,7 @@
 -- Assumes nothing.
 use borrow.Author.Rules.{rules}
 use Rattle.base.proofs.Refusal.{chained, tested}
-use Rattle.layout.specs.Header.{headerRefusal, orderAllowed, countAllowed}
+use Rattle.layout.specs.Header.{header_refusal, order_allowed, count_allowed}
 use Rattle.layout.proofs.header_refusal.Statement.{statement}
 use Rattle.layout.proofs.header_refusal.Tie as tie
 
@@ -49,7 +49,7 @@ first-requires-5 : tie.Need-first-requires-5
 first-requires-5 c κs = search rules
 
 returns : tie.Need-returns
-unfolding headerRefusal orderAllowed countAllowed
+unfolding header_refusal order_allowed count_allowed
 returns c =
     let speedup = c.before.before.before.before.before.before.before.before.before in
     let ports = speedup.before.before in
@@ -59,15 +59,15 @@ returns c =
     (chained c.before.first4.ensures
     order.unless2.ensures
     (chained c.before.before.first3.ensures
-    (tested 4 ports.unless3.ensures ports.before.side-allowed.ensures)
+    (tested 4 ports.unless3.ensures ports.before.side_allowed_lem.ensures)
     (chained c.before.before.before.first2.ensures
     (tested 5 speedup.unless4.ensures speedup.before.side-allowed2.ensures)
     (chained c.before.before.before.before.first.ensures
     c.before.before.before.before.before.before.before.unless5.ensures
     c.before.before.before.before.before.unless6.ensures))))
 
-pub header-refusal-spec : {M : Type 1} → statement M
-header-refusal-spec =
+pub header_refusal_spec : {M : Type 1} → statement M
+header_refusal_spec =
     tie.close
     (tie.spec
     model-allowed-requires

@@ -3,7 +3,7 @@
 use borrow.Author.Rules.{rules}
 use Prim.Native.Nat.{ℕ, ◌+◌, ◌*◌}
 use mathlib.Core.Path.{ap}
-use Rattle.layout.specs.Header.{places_of, slotCountsAt, arrivalsAt, total_of}
+use Rattle.layout.specs.Header.{places_of, slot_counts_at, arrivals_at, total_of}
 use Rattle.layout.proofs.places_of.Statement.{statement}
 use Rattle.layout.proofs.places_of.Tie as tie
 
@@ -35,7 +35,7 @@ add-t7 : tie.Need-overflow-add-t7
 add-t7 c = search rules
 
 returns : tie.Need-returns
-unfolding places_of slotCountsAt arrivalsAt total_of
+unfolding places_of slot_counts_at arrivals_at total_of
 returns c =
     let h = c.before.before.before.args.h in
     ap
@@ -48,8 +48,8 @@ returns c =
     })
     c.before.before.capacity-count.ensures.0
 
-pub places-of-spec : {M : Type 1} → statement M
-places-of-spec =
+pub places_of_spec : {M : Type 1} → statement M
+places_of_spec =
     tie.close
     (tie.spec
     capacity-count-requires

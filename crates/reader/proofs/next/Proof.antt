@@ -46,7 +46,7 @@ use denote.Triple.Walked.{says, Stays, stay_none, walk_of, Goes-none, Walks, end
 use denote.Exit.{yes}
 use denote.Triple.Clauses.{ensured, lasts}
 use Rattle.trace.specs.declared.Standing.{Standing}
-use Rattle.trace.specs.Slots.{standing, slotPart}
+use Rattle.trace.specs.Slots.{standing, slot_part}
 use Rattle.trace.specs.contracts.Standing as S
 use Rattle.trace.proofs.Standing.TheLaws as S'
 use Rattle.trace.specs.contracts.slot_part as slot-part
@@ -57,7 +57,7 @@ use Rattle.trace.specs.contracts.stands as stands
 use Rattle.trace.proofs.stands.Symbol as stands-def
 use Rattle.trace.proofs.stands.Symbol.{name as #trace·stands}
 use Rattle.trace.proofs.stands.Met as stands-thm
-use Rattle.reader.specs.Requests.{slotAfter, Answered}
+use Rattle.reader.specs.Requests.{slot_after, Answered}
 use Rattle.reader.specs.declared.Reader.{Reader}
 use Rattle.reader.specs.declared.Handed.{Handed}
 use Rattle.reader.specs.contracts.Reader as T
@@ -154,11 +154,11 @@ module _ {M : Type 1} {𝓤 : Ura M} (𝓛 : Logic 𝓤) (mem : Memory → SProp
       use2 𝓛 (raw ((Stood 𝓛 mem run).pre to)) (qed 𝓛 ((‵ (flft κ q) ⊛ ‵ ftrue) ∷ ‵ (owns (Slice ∷ usize ∷ []) (d.trace, (d.slot, tt)) passed) ∷ []) ∵ join ! $ frame ! $ done !) $ frame ! $ done !
 
   -- of each callee's `ensured`, the clause alone: none has a `&mut`, so what is said of last values is dropped
-  part-said : (p : Bor (List ℕ)) → ent 𝓤 (ensured 𝓛 slot-part.ended (slot-part.clauses 𝓛 mem run) (κ, tt) (d.trace, (d.slot, tt)) tt p) (fact 𝓤 (p.now ≡ slotPart bytes d.slot))
-  part-said p = ex_e 𝓤 _ (λ ws. snd∗ 𝓤 (sem 𝓛 (lasts slot-part.ended (κ, tt) (d.trace, (d.slot, tt)) ws)) (fact 𝓤 (p.now ≡ slotPart bytes d.slot)))
+  part-said : (p : Bor (List ℕ)) → ent 𝓤 (ensured 𝓛 slot-part.ended (slot-part.clauses 𝓛 mem run) (κ, tt) (d.trace, (d.slot, tt)) tt p) (fact 𝓤 (p.now ≡ slot_part bytes d.slot))
+  part-said p = ex_e 𝓤 _ (λ ws. snd∗ 𝓤 (sem 𝓛 (lasts slot-part.ended (κ, tt) (d.trace, (d.slot, tt)) ws)) (fact 𝓤 (p.now ≡ slot_part bytes d.slot)))
 
-  after-said : (n : ℕ) → ent 𝓤 (ensured 𝓛 slot-after.ended (slot-after.clauses 𝓛 mem run) (κ, tt) (d.trace, (d.slot, tt)) tt n) (fact 𝓤 (n ≡ slotAfter bytes d.slot))
-  after-said n = ex_e 𝓤 _ (λ ws. snd∗ 𝓤 (sem 𝓛 (lasts slot-after.ended (κ, tt) (d.trace, (d.slot, tt)) ws)) (fact 𝓤 (n ≡ slotAfter bytes d.slot)))
+  after-said : (n : ℕ) → ent 𝓤 (ensured 𝓛 slot-after.ended (slot-after.clauses 𝓛 mem run) (κ, tt) (d.trace, (d.slot, tt)) tt n) (fact 𝓤 (n ≡ slot_after bytes d.slot))
+  after-said n = ex_e 𝓤 _ (λ ws. snd∗ 𝓤 (sem 𝓛 (lasts slot-after.ended (κ, tt) (d.trace, (d.slot, tt)) ws)) (fact 𝓤 (n ≡ slot_after bytes d.slot)))
 
   stood-said : (t : Standing) → ent 𝓤 (ensured 𝓛 stands.ended (stands.clauses 𝓛 mem run) (κ, tt) (d.trace, (d.slot, tt)) tt t) (fact 𝓤 (t ≡ standing bytes d.slot))
   stood-said t = ex_e 𝓤 _ (λ ws. snd∗ 𝓤 (sem 𝓛 (lasts stands.ended (κ, tt) (d.trace, (d.slot, tt)) ws)) (fact 𝓤 (t ≡ standing bytes d.slot)))
@@ -197,13 +197,13 @@ module _ {M : Type 1} {𝓤 : Ura M} (𝓛 : Logic 𝓤) (mem : Memory → SProp
         move ! (2 ∷ 0 ∷ []) $ use2 𝓛 (raw ((Part 𝓛 mem run).pre to) ⊛ ‵ Lent) (goes wt.1.1.0.fits) $ split ! $
         calls_at ! fm (Part 𝓛 mem run) known-part to (and_then ! (load ! (from ! (stop !)) (look ! 11 refl)) (and_then ! (load ! (from ! (stop !)) (look ! 9 refl)) (no_more !))) (λ u₁.
         use1 𝓛 (later (some (λ (p : Bor (List ℕ)). ((‵ (flft κ q) ⊛ ‵ ftrue) ⊛ ‵ (Slice.own_val p (u₁ ∷ []))) ⊛ raw (ensured 𝓛 slot-part.ended (slot-part.clauses 𝓛 mem run) (κ, tt) (d.trace, (d.slot, tt)) tt p)))) (id⊢ 𝓤 _) $ await ! tt $ pick ! (λ p.
-        split ! $ move ! (1 ∷ []) $ use1 𝓛 (raw (fact 𝓤 (p.now ≡ slotPart bytes d.slot))) (part-said p) $ heard ! (p.now ≡ slotPart bytes d.slot) (λ e₁. split ! $ move ! (1 ∷ []) $
+        split ! $ move ! (1 ∷ []) $ use1 𝓛 (raw (fact 𝓤 (p.now ≡ slot_part bytes d.slot))) (part-said p) $ heard ! (p.now ≡ slot_part bytes d.slot) (λ e₁. split ! $ move ! (1 ∷ []) $
         peeks ! Slice (Is Slice) (shows 𝓛 Slice) p (u₁ ∷ []) (λ is₁. land ! (from ! (stop !)) (init ! 8 refl ((shr_slice_Lawful 𝓛 erased κ u8).typed p _ is₁).0) $
         -- `slot_after`: [the part; the token; what the trace owns; what the reader owns; _6; …]
         move ! (1 ∷ 2 ∷ []) $ use2 𝓛 (raw ((After 𝓛 mem run).pre to) ⊛ ‵ Lent) (goes wt.1.1.0.fits) $ split ! $
         calls_at ! fm (After 𝓛 mem run) known-after to (and_then ! (load ! (from ! (stop !)) (look ! 12 refl)) (and_then ! (load ! (from ! (stop !)) (look ! 10 refl)) (no_more !))) (λ u₂.
         use1 𝓛 (later (some (λ (n : ℕ). ((‵ (flft κ q) ⊛ ‵ ftrue) ⊛ ‵ (usize.own_val n (u₂ ∷ []))) ⊛ raw (ensured 𝓛 slot-after.ended (slot-after.clauses 𝓛 mem run) (κ, tt) (d.trace, (d.slot, tt)) tt n)))) (id⊢ 𝓤 _) $ await ! tt $ pick ! (λ n.
-        split ! $ move ! (1 ∷ []) $ use1 𝓛 (raw (fact 𝓤 (n ≡ slotAfter bytes d.slot))) (after-said n) $ heard ! (n ≡ slotAfter bytes d.slot) (λ e₂. split ! $ move ! (1 ∷ []) $
+        split ! $ move ! (1 ∷ []) $ use1 𝓛 (raw (fact 𝓤 (n ≡ slot_after bytes d.slot))) (after-said n) $ heard ! (n ≡ slot_after bytes d.slot) (λ e₂. split ! $ move ! (1 ∷ []) $
         peeks ! usize (Is usize) (shows 𝓛 usize) n (u₂ ∷ []) (λ is₂. land ! (from ! (stop !)) (init ! 7 refl ((uint_Lawful 𝓛 w64).typed n _ is₂).0) $
         -- `stands`: [the slot; the token; what the trace owns; the part; what the reader owns; _6; …]
         move ! (1 ∷ 2 ∷ []) $ use2 𝓛 (raw ((Stood 𝓛 mem run).pre to) ⊛ ‵ Lent) (goes wt.1.1.0.fits) $ split ! $
@@ -228,18 +228,18 @@ module _ {M : Type 1} {𝓤 : Ura M} (𝓛 : Logic 𝓤) (mem : Memory → SProp
       (LL.owed (T.the_type (named_lft 1 0 tt κs)) (T'.the_laws (named_lft 1 0 tt κs)) a.0 _ are.0).0
       ((LL.lawful (T.the_type (named_lft 1 0 tt κs)) (T'.the_laws (named_lft 1 0 tt κs)) 𝓛).typed a.0 _ are.0).0))
 
-next-meets : {M : Type 1} {𝓤 : Ura M} (𝓛 : Logic 𝓤) (mem : Memory → SProp 𝓤) (run : Routine → Fun 𝓤) (𝓣 : Tables 𝓤 𝓛.H)
+next_meets : {M : Type 1} {𝓤 : Ura M} (𝓛 : Logic 𝓤) (mem : Memory → SProp 𝓤) (run : Routine → Fun 𝓤) (𝓣 : Tables 𝓤 𝓛.H)
     → Triple 𝓤 (𝓣.C #trace·slot-part) (Part 𝓛 mem run) → Triple 𝓤 (𝓣.C #reader·slot-after) (After 𝓛 mem run) → Triple 𝓤 (𝓣.C #trace·stands) (Stood 𝓛 mem run)
     → Meets 𝓛 next.signature (WpFn 𝓤 𝓛.H 𝓣.C 𝓣.Λ code.function) (next.spec 𝓛 mem run)
-next-meets {𝓤 = 𝓤} 𝓛 mem run 𝓣 known-part known-after known-stood = walk_Meets 𝓛 next.ended stayed (Goes-none 𝓛 1 B yes (λ κs x f. refl), tt) (next.clauses 𝓛 mem run) (WpFn 𝓤 𝓛.H 𝓣.C 𝓣.Λ code.function) (WpFn-mono 𝓤 𝓛.H 𝓛.laws 𝓣 code.function)
+next_meets {𝓤 = 𝓤} 𝓛 mem run 𝓣 known-part known-after known-stood = walk_Meets 𝓛 next.ended stayed (Goes-none 𝓛 1 B yes (λ κs x f. refl), tt) (next.clauses 𝓛 mem run) (WpFn 𝓤 𝓛.H 𝓣.C 𝓣.Λ code.function) (WpFn-mono 𝓤 𝓛.H 𝓛.laws 𝓣 code.function)
     (next-walks 𝓛 mem run 𝓣.C 𝓣.Λ (fm_of 𝓤 𝓛.H 𝓛.laws 𝓣) known-part known-after known-stood)
 
-pub next-spec : {M : Type 1} → stated.statement M
+pub next_spec : {M : Type 1} → stated.statement M
 unfolding code.routine tables_of
-next-spec 𝓤 𝓛 𝓜 𝓡 =
+next_spec 𝓤 𝓛 𝓜 𝓡 =
     entered 𝓤 𝓛.H (triple_of 𝓛 next.signature (next.spec 𝓛 𝓜.mem 𝓡.run))
     (tables 𝓤 𝓛.H 𝓜 𝓡 code.env).C (tables 𝓤 𝓛.H 𝓜 𝓡 code.env).Λ #reader·next code.function (code.unfolded 𝓤 𝓛.H 𝓜 𝓡)
-    (next-meets 𝓛 𝓜.mem 𝓡.run (tables_of 𝓤 𝓛.H 𝓜 (tables 𝓤 𝓛.H 𝓜 𝓡 code.env))
+    (next_meets 𝓛 𝓜.mem 𝓡.run (tables_of 𝓤 𝓛.H 𝓜 (tables 𝓤 𝓛.H 𝓜 𝓡 code.env))
     (cited 𝓤 𝓛.H (Part 𝓛 𝓜.mem 𝓡.run) 𝓜 𝓡 code.env #trace·slot-part slot-part-def.routine code.calls-trace::slot-part (slot-part-thm.met 𝓤 𝓛 𝓜 𝓡))
     (cited 𝓤 𝓛.H (After 𝓛 𝓜.mem 𝓡.run) 𝓜 𝓡 code.env #reader·slot-after slot-after-def.routine code.calls-reader::slot-after (slot-after-thm.met 𝓤 𝓛 𝓜 𝓡))
     (cited 𝓤 𝓛.H (Stood 𝓛 𝓜.mem 𝓡.run) 𝓜 𝓡 code.env #trace·stands stands-def.routine code.calls-trace::stands (stands-thm.met 𝓤 𝓛 𝓜 𝓡)))

@@ -112,13 +112,13 @@ module _ {M : Type 1} {𝓤 : Ura M} (𝓛 : Logic 𝓤) (mem : Memory → SProp
   onward-walks C Λ = walked 𝓛 onward.ended stayed (onward.clauses 𝓛 mem run) (WpFn 𝓤 H C Λ code.function) (λ κs. (LL.vals (N.the_type (named_lft 1 0 tt κs)) (N'.the_laws (named_lft 1 0 tt κs)), tt)) (λ κs. (LL.tells (N.the_type (named_lft 1 0 tt κs)) (N'.the_laws (named_lft 1 0 tt κs)), tt))
       (λ κs qs bounds a g are. via 𝓤 _ (fst∗ 𝓤 _ (emp 𝓤)) (walk 𝓛 mem run κs.0 qs.0 a.0 C Λ ((LL.lawful (N.the_type (named_lft 1 0 tt κs)) (N'.the_laws (named_lft 1 0 tt κs)) 𝓛).typed a.0 _ are.0).0))
 
-onward-meets : {M : Type 1} {𝓤 : Ura M} (𝓛 : Logic 𝓤) → (mem : Memory → SProp 𝓤) (run : Routine → Fun 𝓤) (𝓣 : Tables 𝓤 𝓛.H)
+onward_meets : {M : Type 1} {𝓤 : Ura M} (𝓛 : Logic 𝓤) → (mem : Memory → SProp 𝓤) (run : Routine → Fun 𝓤) (𝓣 : Tables 𝓤 𝓛.H)
     → Meets 𝓛 onward.signature (WpFn 𝓤 𝓛.H 𝓣.C 𝓣.Λ code.function) (onward.spec 𝓛 mem run)
-onward-meets {𝓤 = 𝓤} 𝓛 mem run 𝓣 = walk_Meets 𝓛 onward.ended stayed (Goes-none 𝓛 1 B yes (λ κs x f. refl), tt) (onward.clauses 𝓛 mem run) (WpFn 𝓤 𝓛.H 𝓣.C 𝓣.Λ code.function) (WpFn-mono 𝓤 𝓛.H 𝓛.laws 𝓣 code.function) (onward-walks 𝓛 mem run 𝓣.C 𝓣.Λ)
+onward_meets {𝓤 = 𝓤} 𝓛 mem run 𝓣 = walk_Meets 𝓛 onward.ended stayed (Goes-none 𝓛 1 B yes (λ κs x f. refl), tt) (onward.clauses 𝓛 mem run) (WpFn 𝓤 𝓛.H 𝓣.C 𝓣.Λ code.function) (WpFn-mono 𝓤 𝓛.H 𝓛.laws 𝓣 code.function) (onward-walks 𝓛 mem run 𝓣.C 𝓣.Λ)
 
-pub onward-spec : {M : Type 1} → stated.statement M
+pub onward_spec : {M : Type 1} → stated.statement M
 unfolding code.routine tables_of
-onward-spec 𝓤 𝓛 𝓜 𝓡 =
+onward_spec 𝓤 𝓛 𝓜 𝓡 =
     entered 𝓤 𝓛.H (triple_of 𝓛 onward.signature (onward.spec 𝓛 𝓜.mem 𝓡.run))
     (tables 𝓤 𝓛.H 𝓜 𝓡 code.env).C (tables 𝓤 𝓛.H 𝓜 𝓡 code.env).Λ #reader·onward code.function (code.unfolded 𝓤 𝓛.H 𝓜 𝓡)
-    (onward-meets 𝓛 𝓜.mem 𝓡.run (tables_of 𝓤 𝓛.H 𝓜 (tables 𝓤 𝓛.H 𝓜 𝓡 code.env)))
+    (onward_meets 𝓛 𝓜.mem 𝓡.run (tables_of 𝓤 𝓛.H 𝓜 (tables 𝓤 𝓛.H 𝓜 𝓡 code.env)))

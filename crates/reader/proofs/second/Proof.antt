@@ -46,7 +46,7 @@ use Rattle.trace.specs.declared.Standing.{Standing}
 use Rattle.trace.specs.Slots.{standing}
 use Rattle.trace.specs.contracts.Standing as S
 use Rattle.trace.proofs.Standing.TheLaws as S'
-use Rattle.reader.specs.Requests.{slotAfter, Answered}
+use Rattle.reader.specs.Requests.{slot_after, Answered}
 use Rattle.reader.specs.declared.Reader.{Reader}
 use Rattle.reader.specs.declared.Handed.{Handed}
 use Rattle.reader.proofs.RequestsLaws.{in_a_row}
@@ -93,7 +93,7 @@ module _ {M : Type 1} {𝓤 : Ura M} (𝓛 : Logic 𝓤) (mem : Memory → SProp
   v = slice_val s.ref_ptr (length s.now)
 
   abbrev found : Standing
-  found = standing s.now (slotAfter s.now 0)
+  found = standing s.now (slot_after s.now 0)
 
   -- the lifetime of the structs' types in a signature, and as a local of a body has it
   abbrev α : NamedLft
@@ -165,8 +165,8 @@ module _ {M : Type 1} {𝓤 : Ura M} (𝓛 : Logic 𝓤) (mem : Memory → SProp
   finds : (r r' : Reader) (h h' : Handed) → (r.trace ≡ s) × (r.slot ≡ 0) → Answered r h → (r'.trace ≡ h.trace) × (r'.slot ≡ h.slot) → Answered r' h' → h'.standing ≡ found
   finds r r' h h' e₁ e₂ e₃ e₄ =
       in_a_row r r' h e₂ e₃ h' e₄
-      ∙ ap (λ (x : Bor (List ℕ)). standing x.now (slotAfter x.now r.slot)) e₁.0
-      ∙ ap (λ (t : ℕ). standing s.now (slotAfter s.now t)) e₁.1
+      ∙ ap (λ (x : Bor (List ℕ)). standing x.now (slot_after x.now r.slot)) e₁.0
+      ∙ ap (λ (t : ℕ). standing s.now (slot_after s.now t)) e₁.1
 
   exits : (h : Handed) (u : Val) → h.standing ≡ found → ent 𝓤 (⋆ 𝓛 (‵ (E.own_val h (u ∷ [])) ∷ (‵ (flft κ q) ⊛ ‵ ftrue) ∷ ‵ Own ∷ [])) (Post (stood h))
   exits h u e =

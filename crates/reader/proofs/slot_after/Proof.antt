@@ -3,8 +3,8 @@
 use borrow.Author.Rules.{rules}
 use mathlib.Core.Path.{sym, ◌∙◌}
 use native.Mathlib.Omega.{arith}
-use Rattle.trace.proofs.SlotsLaws.{stands-below, slots-few}
-use Rattle.reader.proofs.RequestsLaws.{goes_on, stays-at-end, stays-refused}
+use Rattle.trace.proofs.SlotsLaws.{stands_below, slots_few}
+use Rattle.reader.proofs.RequestsLaws.{goes_on, stays_at_end, stays_refused}
 use Rattle.reader.proofs.slot_after.Statement.{statement}
 use Rattle.reader.proofs.slot_after.Tie as tie
 
@@ -16,8 +16,8 @@ enum_told c = search rules
 
 add-result : tie.Need-overflow-add-result
 add-result c = let a = c.before.before.before.before.args in
-    let b = stands-below a.trace.now a.slot (sym c.before.before.stands.ensures ∙ c.enum_told.given.1) in
-    omega (arith, b.1, slots-few a.trace.now b.0)
+    let b = stands_below a.trace.now a.slot (sym c.before.before.stands.ensures ∙ c.enum_told.given.1) in
+    omega (arith, b.1, slots_few a.trace.now b.0)
 
 enum-told-2 : tie.Need-enum-told-2
 enum-told-2 c = search rules
@@ -29,12 +29,12 @@ returns : tie.Need-returns
 returns c = sym (goes_on _ _ (sym c.before.before.stands.ensures ∙ c.enum_told.given.1))
 
 returns-2 : tie.Need-returns-2
-returns-2 c = sym (stays-at-end _ _ (sym c.before.before.stands.ensures ∙ c.enum-told2.given.1))
+returns-2 c = sym (stays_at_end _ _ (sym c.before.before.stands.ensures ∙ c.enum-told2.given.1))
 
 returns-3 : tie.Need-returns-3
-returns-3 c = sym (stays-refused _ _ _ (sym c.before.before.stands.ensures ∙ c.enum-told3.given.1))
+returns-3 c = sym (stays_refused _ _ _ (sym c.before.before.stands.ensures ∙ c.enum-told3.given.1))
 
-pub slot-after-spec : {M : Type 1} → statement M
-slot-after-spec =
+pub slot_after_spec : {M : Type 1} → statement M
+slot_after_spec =
     tie.close
     (tie.spec stands-requires enum_told add-result enum-told-2 enum-told-3 returns returns-2 returns-3)

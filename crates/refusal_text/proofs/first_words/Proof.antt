@@ -4,7 +4,7 @@ use borrow.Author.Rules.{rules}
 use native.Mathlib.Omega.{arith}
 use Rattle.text.specs.Text.{ascii}
 use Rattle.text.proofs.WrittenLaws.{same}
-use Rattle.refusal_text.proofs.WordsLaws.{words-1, words-2, words-3, words-4}
+use Rattle.refusal_text.proofs.WordsLaws.{words_1, words_2, words_3, words_4}
 use Rattle.refusal_text.proofs.first_words.Statement.{statement}
 use Rattle.refusal_text.proofs.first_words.Tie as tie
 
@@ -19,7 +19,7 @@ same_length c = search rules
 
 returns : tie.Need-returns
 unfolding ascii
-returns c = same (words-1 _ c.before.before.before.before.before.if1.true) c.before.before.put.ensures
+returns c = same (words_1 _ c.before.before.before.before.before.if1.true) c.before.before.put.ensures
 
 slice-aggregate-put-2 : tie.Need-slice-aggregate-put-2
 slice-aggregate-put-2 c = search rules
@@ -32,7 +32,7 @@ same-length-2 c = search rules
 
 returns-2 : tie.Need-returns-2
 unfolding ascii
-returns-2 c = same (words-2 _ c.before.before.before.before.before.if2.true) c.before.before.put2.ensures
+returns-2 c = same (words_2 _ c.before.before.before.before.before.if2.true) c.before.before.put2.ensures
 
 slice-aggregate-put-3 : tie.Need-slice-aggregate-put-3
 slice-aggregate-put-3 c = search rules
@@ -45,7 +45,7 @@ same-length-3 c = search rules
 
 returns-3 : tie.Need-returns-3
 unfolding ascii
-returns-3 c = same (words-3 _ c.before.before.before.before.before.if3.true) c.before.before.put3.ensures
+returns-3 c = same (words_3 _ c.before.before.before.before.before.if3.true) c.before.before.put3.ensures
 
 slice-aggregate-put-4 : tie.Need-slice-aggregate-put-4
 slice-aggregate-put-4 c = search rules
@@ -58,10 +58,10 @@ same-length-4 c = search rules
 
 returns-4 : tie.Need-returns-4
 unfolding ascii
-returns-4 c = same (words-4 _ (omega arith)) c.before.before.put4.ensures
+returns-4 c = same (words_4 _ (omega arith)) c.before.before.put4.ensures
 
-pub first-words-spec : {M : Type 1} → statement M
-first-words-spec =
+pub first_words_spec : {M : Type 1} → statement M
+first_words_spec =
     tie.close
     (tie.spec
     slice-aggregate-put

@@ -4,7 +4,7 @@ use borrow.Author.Rules.{rules}
 use native.Mathlib.Omega.{arith}
 use Rattle.text.specs.Text.{ascii}
 use Rattle.text.proofs.WrittenLaws.{same}
-use Rattle.refusal_text.proofs.WordsLaws.{words-9, words-10, words-11}
+use Rattle.refusal_text.proofs.WordsLaws.{words_9, words_10, words_11}
 use Rattle.refusal_text.proofs.last_words.Statement.{statement}
 use Rattle.refusal_text.proofs.last_words.Tie as tie
 
@@ -19,7 +19,7 @@ same_length c = search rules
 
 returns : tie.Need-returns
 unfolding ascii
-returns c = same (words-9 _ c.before.before.before.before.before.if1.true) c.before.before.put.ensures
+returns c = same (words_9 _ c.before.before.before.before.before.if1.true) c.before.before.put.ensures
 
 slice-aggregate-put-2 : tie.Need-slice-aggregate-put-2
 slice-aggregate-put-2 c = search rules
@@ -32,7 +32,7 @@ same-length-2 c = search rules
 
 returns-2 : tie.Need-returns-2
 unfolding ascii
-returns-2 c = same (words-10 _ c.before.before.before.before.before.if2.true) c.before.before.put2.ensures
+returns-2 c = same (words_10 _ c.before.before.before.before.before.if2.true) c.before.before.put2.ensures
 
 slice-aggregate-put-3 : tie.Need-slice-aggregate-put-3
 slice-aggregate-put-3 c = search rules
@@ -45,10 +45,10 @@ same-length-3 c = search rules
 
 returns-3 : tie.Need-returns-3
 unfolding ascii
-returns-3 c = same (words-11 _ (omega arith)) c.before.before.put3.ensures
+returns-3 c = same (words_11 _ (omega arith)) c.before.before.put3.ensures
 
-pub last-words-spec : {M : Type 1} → statement M
-last-words-spec =
+pub last_words_spec : {M : Type 1} → statement M
+last_words_spec =
     tie.close
     (tie.spec
     slice-aggregate-put

@@ -3,7 +3,7 @@
 use borrow.Author.Rules.{rules}
 use Rattle.text.specs.Text.{ascii}
 use Rattle.text.proofs.WrittenLaws.{then}
-use Rattle.refusal_text.specs.Refusals.{refusalLine}
+use Rattle.refusal_text.specs.Refusals.{refusal_line}
 use Rattle.refusal_text.proofs.refusal_line.Statement.{statement}
 use Rattle.refusal_text.proofs.refusal_line.Tie as tie
 
@@ -35,7 +35,7 @@ same_length : tie.Need-same-length
 same_length c = search rules
 
 returns : tie.Need-returns
-unfolding refusalLine ascii
+unfolding refusal_line ascii
 returns c =
     let to-words = c.before.before.before.before.before.before.before in
     let to-colon = to-words.before.before.before.before in
@@ -45,8 +45,8 @@ returns c =
     (then (then (then to-refused.put.ensures to_number.decimal.ensures) to-colon.put2.ensures) to-words.words.ensures)
     c.before.before.put3.ensures
 
-pub refusal-line-spec : {M : Type 1} → statement M
-refusal-line-spec =
+pub refusal_line_spec : {M : Type 1} → statement M
+refusal_line_spec =
     tie.close
     (tie.spec
     slice-aggregate-put

@@ -4,7 +4,7 @@ use borrow.Author.Rules.{rules}
 use native.Mathlib.Omega.{arith}
 use Rattle.text.specs.Text.{ascii}
 use Rattle.text.proofs.WrittenLaws.{same}
-use Rattle.refusal_text.proofs.WordsLaws.{none-words, past_words}
+use Rattle.refusal_text.proofs.WordsLaws.{none_words, past_words}
 use Rattle.refusal_text.proofs.words.Statement.{statement}
 use Rattle.refusal_text.proofs.words.Tie as tie
 
@@ -19,7 +19,7 @@ same_length c = search rules
 
 returns : tie.Need-returns
 unfolding ascii
-returns c = same (none-words _ c.before.before.before.before.before.if1.true) c.before.before.put.ensures
+returns c = same (none_words _ c.before.before.before.before.before.if1.true) c.before.before.put.ensures
 
 first-words-requires : tie.Need-first-words-requires
 first-words-requires c κs = search rules
@@ -61,8 +61,8 @@ returns-5 : tie.Need-returns-5
 unfolding ascii
 returns-5 c = same (past_words _ (omega arith)) c.before.before.put2.ensures
 
-pub words-spec : {M : Type 1} → statement M
-words-spec =
+pub words_spec : {M : Type 1} → statement M
+words_spec =
     tie.close
     (tie.spec
     slice-aggregate-put

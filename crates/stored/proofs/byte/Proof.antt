@@ -18,5 +18,5 @@ returns c = omega (arith, c.shared-slice-known.given c.before.before.args.at)
 returns-2 : tie.Need-returns-2
 returns-2 c = search rules
 
-pub byte-spec : {M : Type 1} → statement M
-byte-spec = tie.close (tie.spec shared-slice-read-result cast-result returns returns-2)
+pub byte_spec : {M : Type 1} → statement M
+byte_spec = tie.close (tie.spec shared-slice-read-result cast-result returns returns-2)

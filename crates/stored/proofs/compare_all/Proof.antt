@@ -87,8 +87,8 @@ loop-again c = search rules
 returns : tie.Need-returns invariant-loop decreases-loop
 returns c = search rules
 
-pub compare-all-spec : {M : Type 1} → statement M
-compare-all-spec =
+pub compare_all_spec : {M : Type 1} → statement M
+compare_all_spec =
     tie.close
     (tie.spec
     invariant-loop

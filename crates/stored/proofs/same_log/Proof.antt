@@ -41,8 +41,8 @@ loop-again c = search rules
 returns-3 : tie.Need-returns-3 invariant-loop decreases-loop
 returns-3 c = search rules
 
-pub same-log-spec : {M : Type 1} → statement M
-same-log-spec =
+pub same_log_spec : {M : Type 1} → statement M
+same_log_spec =
     tie.close
     (tie.spec
     invariant-loop

@@ -3,7 +3,7 @@
 use borrow.Author.Rules.{rules}
 use mathlib.Core.Path.{◌≡◌, refl, sym, ◌∙◌, ap, ap₂}
 use Rattle.base.specs.Refusal.{◌⨟◌}
-use Rattle.switch.specs.Steps.{closeRefusal}
+use Rattle.switch.specs.Steps.{close_refusal}
 use Rattle.switch.proofs.close_refusal.Statement.{statement}
 use Rattle.switch.proofs.close_refusal.Tie as tie
 
@@ -17,9 +17,9 @@ first-requires : tie.Need-first-requires
 first-requires c κs = search rules
 
 returns : tie.Need-returns
-unfolding closeRefusal
+unfolding close_refusal
 returns c = c.first.ensures ∙ ap₂ ◌⨟◌ c.before.before.before.refusal.ensures c.before.unless.ensures
 
-pub close-refusal-spec : {M : Type 1} → statement M
-close-refusal-spec =
+pub close_refusal_spec : {M : Type 1} → statement M
+close_refusal_spec =
     tie.close (tie.spec refusal-requires unless-requires first-requires returns)

@@ -3,12 +3,12 @@
 use borrow.Author.Rules.{rules}
 use native.Mathlib.Omega.{arith}
 use mathlib.Core.Path.{◌≡◌, refl, sym, ◌∙◌, ap, ap₂}
-use Rattle.layout.specs.Header.{hasCrosspoints}
+use Rattle.layout.specs.Header.{has_crosspoints}
 use Rattle.queues.specs.Turn.{turn}
 use Rattle.queues.specs.Slot.{Done, closing}
 use Rattle.queues.specs.Lent.{Held}
 use Rattle.slot_laws.proofs.Balance.{Sized}
-use Rattle.switch.proofs.SettlingLaws.{same-closing, closed-as}
+use Rattle.switch.proofs.SettlingLaws.{same_closing, closed_as}
 use Rattle.switch.proofs.closed_queues.Statement.{statement}
 use Rattle.switch.proofs.closed_queues.Tie as tie
 
@@ -37,16 +37,16 @@ close-requires : tie.Need-close-requires
 close-requires c κs = search rules
 
 returns : tie.Need-returns
-unfolding hasCrosspoints
+unfolding has_crosspoints
 returns c = let a = c.before.before.before.before.before.before.before.before.before.before.before.before.before.before.before.before.before.before.args in
     let z : Sized a.q = record { incap = search rules; outcap = search rules; crosscap = search rules; inlen = search rules; outlen = search rules; crosslen = search rules } in
-    let l = c.before.before.before.before.close.ensures a.q (record { of-outcap = refl; of-crosscap = refl; of-inlen = refl; of-outlen = refl; of-crosslen = refl }) in
-    let e = same-closing (hasCrosspoints a.model) a.q a.order a.ports a.speedup a.slot _ c.before.before.before.before.before.before.before.before.before.before.before.before.before.before.before.before.before.before.requires c.before.before.before.before.before.before.before.before.before.before.before.before.turn.ensures in
-    closed-as (hasCrosspoints a.model) a.q a.ports (turn a.order a.ports a.slot) a.speedup a.slot _ _ _ z c.before.before.before.before.before.before.before.before.before.before.before.before.before.before.before.before.before.before.requires
-    (l.of-inlen ∙ ap (λ (d : Done). d.queues.inlen) e) (l.of-outlen ∙ ap (λ (d : Done). d.queues.outlen) e) (l.of-crosslen ∙ ap (λ (d : Done). d.queues.crosslen) e)
+    let l = c.before.before.before.before.close.ensures a.q (record { of_outcap = refl; of_crosscap = refl; of_inlen = refl; of_outlen = refl; of_crosslen = refl }) in
+    let e = same_closing (has_crosspoints a.model) a.q a.order a.ports a.speedup a.slot _ c.before.before.before.before.before.before.before.before.before.before.before.before.before.before.before.before.before.before.requires c.before.before.before.before.before.before.before.before.before.before.before.before.turn.ensures in
+    closed_as (has_crosspoints a.model) a.q a.ports (turn a.order a.ports a.slot) a.speedup a.slot _ _ _ z c.before.before.before.before.before.before.before.before.before.before.before.before.before.before.before.before.before.before.requires
+    (l.of_inlen ∙ ap (λ (d : Done). d.queues.inlen) e) (l.of_outlen ∙ ap (λ (d : Done). d.queues.outlen) e) (l.of_crosslen ∙ ap (λ (d : Done). d.queues.crosslen) e)
 
-pub closed-queues-spec : {M : Type 1} → statement M
-closed-queues-spec =
+pub closed_queues_spec : {M : Type 1} → statement M
+closed_queues_spec =
     tie.close
     (tie.spec
     turn-requires

@@ -3,7 +3,7 @@
 use borrow.Author.Rules.{rules}
 use mathlib.Core.Path.{◌≡◌, refl, sym, ◌∙◌, ap, ap₂}
 use Rattle.base.specs.Refusal.{◌⨟◌}
-use Rattle.switch.specs.Draining.{drainRefusal}
+use Rattle.switch.specs.Draining.{drain_refusal}
 use Rattle.switch.proofs.drain_refusal.Statement.{statement}
 use Rattle.switch.proofs.drain_refusal.Tie as tie
 
@@ -29,13 +29,13 @@ first-requires-2 : tie.Need-first-requires-2
 first-requires-2 c κs = search rules
 
 returns : tie.Need-returns
-unfolding drainRefusal
+unfolding drain_refusal
 returns c = c.first2.ensures
     ∙ ap₂ ◌⨟◌ c.before.before.before.before.before.refusal.ensures
     (c.before.first.ensures ∙ ap₂ ◌⨟◌ c.before.before.before.before.unless.ensures c.before.before.unless2.ensures)
 
-pub drain-refusal-spec : {M : Type 1} → statement M
-drain-refusal-spec =
+pub drain_refusal_spec : {M : Type 1} → statement M
+drain_refusal_spec =
     tie.close
     (tie.spec
     refusal-requires

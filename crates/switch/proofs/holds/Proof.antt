@@ -1,7 +1,7 @@
 -- `switch::holds` meets its contract.
 -- Assumes nothing.
 use borrow.Author.Rules.{rules}
-use Rattle.switch.specs.Switch.{packets, heldIn, heldOut, heldCross}
+use Rattle.switch.specs.Switch.{packets, held_in, held_out, held_cross}
 use Rattle.switch.proofs.holds.Statement.{statement}
 use Rattle.switch.proofs.holds.Tie as tie
 
@@ -24,14 +24,14 @@ packets-requires-3 : tie.Need-packets-requires-3
 packets-requires-3 c κs = search rules
 
 returns : tie.Need-returns
-unfolding packets heldIn heldOut heldCross
+unfolding packets held_in held_out held_cross
 returns c = (
   (c.before.before.before.before.packets.ensures.0, c.before.before.packets2.ensures.0, c.packets3.ensures.0),
   (c.before.before.before.before.packets.ensures.1, c.before.before.packets2.ensures.1, c.packets3.ensures.1),
 )
 
-pub holds-spec : {M : Type 1} → statement M
-holds-spec =
+pub holds_spec : {M : Type 1} → statement M
+holds_spec =
     tie.close
     (tie.spec
     slice-aggregate-packets

@@ -1,7 +1,7 @@
 -- `switch::is_empty` meets its contract.
 -- Assumes nothing.
 use borrow.Author.Rules.{rules}
-use Rattle.switch.specs.Switch.{heldAll, held}
+use Rattle.switch.specs.Switch.{held_all, held}
 use Rattle.switch.proofs.is_empty.Statement.{statement}
 use Rattle.switch.proofs.is_empty.Tie as tie
 
@@ -15,7 +15,7 @@ add-result-2 : tie.Need-overflow-add-result-2
 add-result-2 c = search rules
 
 returns : tie.Need-returns
-unfolding held heldAll
+unfolding held held_all
 returns c = let e = c.before.before.holds.ensures.0 in
     rw (← e.0, ← e.1, ← e.2)
 

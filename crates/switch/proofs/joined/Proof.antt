@@ -5,7 +5,7 @@ use mathlib.Core.Path.{◌≡◌, refl, sym, ◌∙◌, ap}
 use Prim.Native.Nat.{ℕ}
 use mathlib.Core.List.{List}
 use Rattle.queues.specs.Queues.{lengths}
-use Rattle.queues.proofs.QueuesLaws.{joins-room}
+use Rattle.queues.proofs.QueuesLaws.{joins_room}
 use Rattle.switch.proofs.joined.Statement.{statement}
 use Rattle.switch.proofs.joined.Tie as tie
 
@@ -18,7 +18,7 @@ join-requires c κs = search rules
 returns : tie.Need-returns
 unfolding lengths
 returns c = let q = c.before.before.before.before.before.before.before.args.t1 in
-    ap (λ (l : List ℕ). lengths q l q.outlen q.crosslen) (c.before.join.ensures ∙ sym (joins-room q.incap q.inlen c.before.before.before.before.before.before.before.args.k c.before.before.before.before.before.before.before.requires))
+    ap (λ (l : List ℕ). lengths q l q.outlen q.crosslen) (c.before.join.ensures ∙ sym (joins_room q.incap q.inlen c.before.before.before.before.before.before.before.args.k c.before.before.before.before.before.before.before.requires))
 
-pub joined-spec : {M : Type 1} → statement M
-joined-spec = tie.close (tie.spec slice-aggregate-join join-requires returns)
+pub joined_spec : {M : Type 1} → statement M
+joined_spec = tie.close (tie.spec slice-aggregate-join join-requires returns)

@@ -14,9 +14,9 @@ use Rattle.switch.specs.declared.Switch.{Switch}
 use Rattle.switch.specs.declared.Drained.{Drained}
 use Rattle.switch.specs.declared.Drain.TheVariants.{Empty, NotEmpty}
 use Rattle.switch.specs.Switch.{held}
-use Rattle.switch.specs.Steps.{closeStep}
+use Rattle.switch.specs.Steps.{close_step}
 use Rattle.switch.specs.Draining.{closings, quiet, drain}
-use Rattle.switch.proofs.DrainLaws.{closings-keep, closings-more, drain-may, ended-empty, ended-not-empty}
+use Rattle.switch.proofs.DrainLaws.{closings_keep, closings_more, drain_may, ended_empty, ended_not_empty}
 use Rattle.switch.proofs.quiet_slots.Statement.{statement}
 use Rattle.switch.proofs.quiet_slots.Tie as tie
 
@@ -41,13 +41,13 @@ returns : tie.Need-returns invariant-loop decreases-loop
 returns c = let a = c.before.before.before.before.args in
     let l = c.before.before.before.loop in
     let e : held l.now ≡ 0 = eqb-true _ _ (sym c.before.is-empty.ensures ∙ c.if1.true) in
-    ended-empty a.s a.limit l.n l.now c.before.before.before.before.requires l.invariant.0 l.invariant.1 l.invariant.2 e
+    ended_empty a.s a.limit l.n l.now c.before.before.before.before.requires l.invariant.0 l.invariant.1 l.invariant.2 e
 
 step-requires : tie.Need-step-requires invariant-loop decreases-loop
 step-requires c κs = let a = c.before.before.before.before.args in
     let l = c.before.before.before.loop in
-    let may = drain-may a.s a.limit c.before.before.before.before.requires in
-    rw l.invariant.1 (closings-keep a.s (sized c.before.before.before.before) may.0 l.n (omega (arith, may.2))).allowed
+    let may = drain_may a.s a.limit c.before.before.before.before.requires in
+    rw l.invariant.1 (closings_keep a.s (sized c.before.before.before.before) may.0 l.n (omega (arith, may.2))).allowed
 
 add-n : tie.Need-overflow-add-n invariant-loop decreases-loop
 add-n c = omega arith
@@ -60,7 +60,7 @@ loop-again c = let a = c.before.before.before.before.before.args in
     let l = c.before.before.before.before.loop in
     let some : held l.now ≡ 0 → ⊥ = eqb-false _ _ (sym c.before.before.is-empty.ensures ∙ c.before.if1.false) in (
       omega arith,
-      c.step.ensures ∙ ap closeStep l.invariant.1 ∙ sym (closings-more a.s l.n),
+      c.step.ensures ∙ ap close_step l.invariant.1 ∙ sym (closings_more a.s l.n),
       below_more (λ m. held (closings a.s m) ≡ 0 → ⊥) l.n l.invariant.2 (λ z. some (ap held l.invariant.1 ∙ z)),
     )
 
@@ -71,16 +71,16 @@ returns-2 : tie.Need-returns-2 invariant-loop decreases-loop
 returns-2 c = let a = c.before.before.before.before.args in
     let l = c.before.before.before.loop in
     let e : held l.now ≡ 0 = eqb-true _ _ (sym c.before.is-empty2.ensures ∙ c.if2.true) in
-    ended-empty a.s a.limit l.n l.now c.before.before.before.before.requires l.invariant.0 l.invariant.1 l.invariant.2 e
+    ended_empty a.s a.limit l.n l.now c.before.before.before.before.requires l.invariant.0 l.invariant.1 l.invariant.2 e
 
 returns-3 : tie.Need-returns-3 invariant-loop decreases-loop
 returns-3 c = let a = c.before.before.before.before.args in
     let l = c.before.before.before.loop in
     let some : held l.now ≡ 0 → ⊥ = eqb-false _ _ (sym c.before.is-empty2.ensures ∙ c.if2.false) in
-    ended-not-empty a.s a.limit l.n l.now c.before.before.before.before.requires l.invariant.0 l.invariant.1 l.invariant.2 (omega arith) some
+    ended_not_empty a.s a.limit l.n l.now c.before.before.before.before.requires l.invariant.0 l.invariant.1 l.invariant.2 (omega arith) some
 
-pub quiet-slots-spec : {M : Type 1} → statement M
-quiet-slots-spec =
+pub quiet_slots_spec : {M : Type 1} → statement M
+quiet_slots_spec =
     tie.close
     (tie.spec
     invariant-loop

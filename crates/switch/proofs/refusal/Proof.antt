@@ -16,5 +16,5 @@ unless-requires c κs = search rules
 returns : tie.Need-returns
 returns c = c.unless.ensures ∙ ap (λ (x : Bool). unless x 13) c.before.allowed.ensures
 
-pub refusal-spec : {M : Type 1} → statement M
-refusal-spec = tie.close (tie.spec allowed-requires unless-requires returns)
+pub refusal_spec : {M : Type 1} → statement M
+refusal_spec = tie.close (tie.spec allowed-requires unless-requires returns)

@@ -4,8 +4,8 @@ use borrow.Author.Rules.{rules}
 use native.Mathlib.Omega.{arith}
 use mathlib.Core.Path.{◌≡◌, refl, sym, ◌∙◌, ap, ap₂}
 use Prim.Native.Nat.{ℕ, ◌+◌, ◌-◌, ◌≤◌, ◌<◌}
-use Rattle.switch.specs.Switch.{heldAll}
-use Rattle.switch.proofs.SettlingLaws.{held-arrived}
+use Rattle.switch.specs.Switch.{held_all}
+use Rattle.switch.proofs.SettlingLaws.{held_arrived}
 use Rattle.switch.proofs.settle.Statement.{statement}
 use Rattle.switch.proofs.settle.Tie as tie
 
@@ -17,7 +17,7 @@ cast-out c = let a = c.before.before.args in
     let p = c.before.before.requires in
     let h = c.before.holds.result in
     let e = c.before.holds.ensures.0 in
-    let kept : h.inputs + h.outputs + h.crosspoints + a.s.dropped ≤ a.s.arrived = held-arrived a.q a.s.dropped a.s.arrived h.inputs h.outputs h.crosspoints p.0 e.0 e.1 e.2 in
+    let kept : h.inputs + h.outputs + h.crosspoints + a.s.dropped ≤ a.s.arrived = held_arrived a.q a.s.dropped a.s.arrived h.inputs h.outputs h.crosspoints p.0 e.0 e.1 e.2 in
     let few : a.s.arrived ≤ 4096 = p.1 in
     let n : h.outputs < 4294967296 = omega arith in
     record { fits = n }
@@ -27,7 +27,7 @@ cast-cross c = let a = c.before.before.before.args in
     let p = c.before.before.before.requires in
     let h = c.before.before.holds.result in
     let e = c.before.before.holds.ensures.0 in
-    let kept : h.inputs + h.outputs + h.crosspoints + a.s.dropped ≤ a.s.arrived = held-arrived a.q a.s.dropped a.s.arrived h.inputs h.outputs h.crosspoints p.0 e.0 e.1 e.2 in
+    let kept : h.inputs + h.outputs + h.crosspoints + a.s.dropped ≤ a.s.arrived = held_arrived a.q a.s.dropped a.s.arrived h.inputs h.outputs h.crosspoints p.0 e.0 e.1 e.2 in
     let few : a.s.arrived ≤ 4096 = p.1 in
     let n : h.crosspoints < 4294967296 = omega arith in
     record { fits = n }
@@ -37,7 +37,7 @@ cast-left c = let a = c.before.before.before.before.args in
     let p = c.before.before.before.before.requires in
     let h = c.before.before.before.holds.result in
     let e = c.before.before.before.holds.ensures.0 in
-    let kept : h.inputs + h.outputs + h.crosspoints + a.s.dropped ≤ a.s.arrived = held-arrived a.q a.s.dropped a.s.arrived h.inputs h.outputs h.crosspoints p.0 e.0 e.1 e.2 in
+    let kept : h.inputs + h.outputs + h.crosspoints + a.s.dropped ≤ a.s.arrived = held_arrived a.q a.s.dropped a.s.arrived h.inputs h.outputs h.crosspoints p.0 e.0 e.1 e.2 in
     let few : a.s.arrived ≤ 4096 = p.1 in
     let n : h.inputs < 4294967296 = omega arith in
     record { fits = n }
@@ -47,7 +47,7 @@ add_left c = let a = c.before.before.before.before.args in
     let p = c.before.before.before.before.requires in
     let h = c.before.before.before.holds.result in
     let e = c.before.before.before.holds.ensures.0 in
-    let kept : h.inputs + h.outputs + h.crosspoints + a.s.dropped ≤ a.s.arrived = held-arrived a.q a.s.dropped a.s.arrived h.inputs h.outputs h.crosspoints p.0 e.0 e.1 e.2 in
+    let kept : h.inputs + h.outputs + h.crosspoints + a.s.dropped ≤ a.s.arrived = held_arrived a.q a.s.dropped a.s.arrived h.inputs h.outputs h.crosspoints p.0 e.0 e.1 e.2 in
     let few : a.s.arrived ≤ 4096 = p.1 in
     let n : h.inputs + h.outputs < 4294967296 = omega arith in
     record { fits = n }
@@ -57,7 +57,7 @@ add-left-2 c = let a = c.before.before.before.before.args in
     let p = c.before.before.before.before.requires in
     let h = c.before.before.before.holds.result in
     let e = c.before.before.before.holds.ensures.0 in
-    let kept : h.inputs + h.outputs + h.crosspoints + a.s.dropped ≤ a.s.arrived = held-arrived a.q a.s.dropped a.s.arrived h.inputs h.outputs h.crosspoints p.0 e.0 e.1 e.2 in
+    let kept : h.inputs + h.outputs + h.crosspoints + a.s.dropped ≤ a.s.arrived = held_arrived a.q a.s.dropped a.s.arrived h.inputs h.outputs h.crosspoints p.0 e.0 e.1 e.2 in
     let few : a.s.arrived ≤ 4096 = p.1 in
     let n : (h.inputs + h.outputs + h.crosspoints) < 4294967296 = omega arith in
     record { fits = n }
@@ -70,7 +70,7 @@ sub-sent-2 c = let a = c.before.before.before.before.before.args in
     let p = c.before.before.before.before.before.requires in
     let h = c.before.before.before.before.holds.result in
     let e = c.before.before.before.before.holds.ensures.0 in
-    let kept : h.inputs + h.outputs + h.crosspoints + a.s.dropped ≤ a.s.arrived = held-arrived a.q a.s.dropped a.s.arrived h.inputs h.outputs h.crosspoints p.0 e.0 e.1 e.2 in
+    let kept : h.inputs + h.outputs + h.crosspoints + a.s.dropped ≤ a.s.arrived = held_arrived a.q a.s.dropped a.s.arrived h.inputs h.outputs h.crosspoints p.0 e.0 e.1 e.2 in
     let few : a.s.arrived ≤ 4096 = p.1 in
     let n : (h.inputs + h.outputs + h.crosspoints) ≤ a.s.arrived - a.s.dropped = omega arith in
     n
@@ -83,7 +83,7 @@ add-next-2 c = let a = c.before.before.before.before.before.before.args in
     let p = c.before.before.before.before.before.before.requires in
     let h = c.before.before.before.before.before.holds.result in
     let e = c.before.before.before.before.before.holds.ensures.0 in
-    let kept : h.inputs + h.outputs + h.crosspoints + a.s.dropped ≤ a.s.arrived = held-arrived a.q a.s.dropped a.s.arrived h.inputs h.outputs h.crosspoints p.0 e.0 e.1 e.2 in
+    let kept : h.inputs + h.outputs + h.crosspoints + a.s.dropped ≤ a.s.arrived = held_arrived a.q a.s.dropped a.s.arrived h.inputs h.outputs h.crosspoints p.0 e.0 e.1 e.2 in
     let few : a.s.arrived ≤ 4096 = p.1 in
     let n : (a.s.arrived - a.s.dropped - (h.inputs + h.outputs + h.crosspoints)) + h.outputs < 4294967296 = omega arith in
     record { fits = n }
@@ -93,7 +93,7 @@ add-next-3 c = let a = c.before.before.before.before.before.before.args in
     let p = c.before.before.before.before.before.before.requires in
     let h = c.before.before.before.before.before.holds.result in
     let e = c.before.before.before.before.before.holds.ensures.0 in
-    let kept : h.inputs + h.outputs + h.crosspoints + a.s.dropped ≤ a.s.arrived = held-arrived a.q a.s.dropped a.s.arrived h.inputs h.outputs h.crosspoints p.0 e.0 e.1 e.2 in
+    let kept : h.inputs + h.outputs + h.crosspoints + a.s.dropped ≤ a.s.arrived = held_arrived a.q a.s.dropped a.s.arrived h.inputs h.outputs h.crosspoints p.0 e.0 e.1 e.2 in
     let few : a.s.arrived ≤ 4096 = p.1 in
     let n : (a.s.arrived - a.s.dropped - (h.inputs + h.outputs + h.crosspoints)) + h.outputs < 4294967296 = omega arith in
     record { fits = n }
@@ -103,18 +103,18 @@ add-next-4 c = let a = c.before.before.before.before.before.before.args in
     let p = c.before.before.before.before.before.before.requires in
     let h = c.before.before.before.before.before.holds.result in
     let e = c.before.before.before.before.before.holds.ensures.0 in
-    let kept : h.inputs + h.outputs + h.crosspoints + a.s.dropped ≤ a.s.arrived = held-arrived a.q a.s.dropped a.s.arrived h.inputs h.outputs h.crosspoints p.0 e.0 e.1 e.2 in
+    let kept : h.inputs + h.outputs + h.crosspoints + a.s.dropped ≤ a.s.arrived = held_arrived a.q a.s.dropped a.s.arrived h.inputs h.outputs h.crosspoints p.0 e.0 e.1 e.2 in
     let few : a.s.arrived ≤ 4096 = p.1 in
     let n : (a.s.arrived - a.s.dropped - (h.inputs + h.outputs + h.crosspoints)) + h.outputs + h.crosspoints < 4294967296 = omega arith in
     record { fits = n }
 
 returns : tie.Need-returns
-unfolding heldAll
+unfolding held_all
 returns c = let e = c.before.before.before.before.before.holds.ensures.0 in
     rw (← e.0, ← e.1, ← e.2)
 
-pub settle-spec : {M : Type 1} → statement M
-settle-spec =
+pub settle_spec : {M : Type 1} → statement M
+settle_spec =
     tie.close
     (tie.spec
     holds-requires

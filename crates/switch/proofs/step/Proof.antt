@@ -6,10 +6,10 @@ use mathlib.Core.Path.{◌≡◌, refl, sym, ◌∙◌, ap, ap₂}
 use Prim.Native.Nat.{ℕ, ◌+◌, ◌≤◌}
 use Rattle.queues.specs.declared.Queues.{Queues}
 use Rattle.slot_laws.proofs.Balance.{Sized}
-use Rattle.switch.specs.Switch.{heldAll}
+use Rattle.switch.specs.Switch.{held_all}
 use Rattle.switch.specs.Settling.{settled}
 use Rattle.switch.proofs.AllowedLaws.{sound}
-use Rattle.switch.proofs.ClosingLaws.{left-arrived, closed-counts}
+use Rattle.switch.proofs.ClosingLaws.{left_arrived, closed_counts}
 use Rattle.switch.proofs.step.Statement.{statement}
 use Rattle.switch.proofs.step.Tie as tie
 
@@ -23,11 +23,11 @@ closed-queues-requires c κs = (sound c.before.args.s c.before.requires).ports.1
 settle-requires : tie.Need-settle-requires
 settle-requires c κs = let s = c.before.before.args.s in
     let a = sound s c.before.before.requires in
-    (rw c.closed-queues.ensures (left-arrived s (sized c.before.before) c.before.before.requires), a.few, a.slot)
+    (rw c.closed-queues.ensures (left_arrived s (sized c.before.before) c.before.before.requires), a.few, a.slot)
 
 returns : tie.Need-returns
 returns c = let s = c.before.before.before.args.s in
-    c.settle.ensures ∙ ap (settled s) c.before.closed-queues.ensures ∙ sym (closed-counts s (sized c.before.before.before) c.before.before.before.requires)
+    c.settle.ensures ∙ ap (settled s) c.before.closed-queues.ensures ∙ sym (closed_counts s (sized c.before.before.before) c.before.before.before.requires)
 
 pub step_spec : {M : Type 1} → statement M
 step_spec = tie.close (tie.spec closed-queues-requires settle-requires returns)

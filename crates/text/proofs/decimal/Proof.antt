@@ -2,7 +2,7 @@
 -- Assumes nothing.
 use borrow.Author.Rules.{rules}
 use mathlib.Core.Path.{◌∙◌}
-use Rattle.text.proofs.PlacesLaws.{decimal-is}
+use Rattle.text.proofs.PlacesLaws.{decimal_is}
 use Rattle.text.proofs.WrittenLaws.{same}
 use Rattle.text.proofs.decimal.Statement.{statement}
 use Rattle.text.proofs.decimal.Tie as tie
@@ -26,10 +26,10 @@ returns : tie.Need-returns
 returns c =
     let to-digits = c.before.before.before.before.before in
     let a = to-digits.before.before.before.args in
-    same (to-digits.decimal.ensures.1.1 ∙ decimal-is a.n to-digits.decimal.result (search rules) to-digits.decimal.ensures.1.0) c.before.before.put.ensures
+    same (to-digits.decimal.ensures.1.1 ∙ decimal_is a.n to-digits.decimal.result (search rules) to-digits.decimal.ensures.1.0) c.before.before.put.ensures
 
-pub decimal-spec : {M : Type 1} → statement M
-decimal-spec =
+pub decimal_spec : {M : Type 1} → statement M
+decimal_spec =
     tie.close
     (tie.spec
     decimal-requires

@@ -2,7 +2,7 @@
 -- Assumes nothing.
 use borrow.Author.Rules.{rules}
 use mathlib.Core.Path.{◌∙◌}
-use Rattle.text.proofs.PlacesLaws.{hex-is}
+use Rattle.text.proofs.PlacesLaws.{hex_is}
 use Rattle.text.proofs.WrittenLaws.{same}
 use Rattle.text.proofs.hex.Statement.{statement}
 use Rattle.text.proofs.hex.Tie as tie
@@ -26,10 +26,10 @@ returns : tie.Need-returns
 returns c =
     let to-digits = c.before.before.before.before.before in
     let a = to-digits.before.before.before.args in
-    same (to-digits.hex.ensures.1.1 ∙ hex-is a.w to-digits.hex.result (search rules) to-digits.hex.ensures.1.0) c.before.before.put.ensures
+    same (to-digits.hex.ensures.1.1 ∙ hex_is a.w to-digits.hex.result (search rules) to-digits.hex.ensures.1.0) c.before.before.put.ensures
 
-pub hex-spec : {M : Type 1} → statement M
-hex-spec =
+pub hex_spec : {M : Type 1} → statement M
+hex_spec =
     tie.close
     (tie.spec
     hex-requires

@@ -35,8 +35,8 @@ returns c =
     let to-name = to_space.before.before.before.before.before in
     then (then (then to-name.put.ensures to_space.put2.ensures) to_number.decimal.ensures) c.before.before.put3.ensures
 
-pub line-spec : {M : Type 1} → statement M
-line-spec =
+pub line_spec : {M : Type 1} → statement M
+line_spec =
     tie.close
     (tie.spec
     put-requires

@@ -5,7 +5,7 @@ use native.Mathlib.Omega.{arith}
 use Prim.Native.Nat.{◌≤◌, ◌-◌}
 use lib.ListN.{length, take}
 use Rattle.text.specs.Text.{Written}
-use Rattle.text.proofs.WrittenLaws.{nothing, one_more, all_of, page-length}
+use Rattle.text.proofs.WrittenLaws.{nothing, one_more, all_of, page_length}
 use Rattle.text.proofs.put.Statement.{statement}
 use Rattle.text.proofs.put.Tie as tie
 
@@ -37,7 +37,7 @@ loop-again c =
     (omega arith, one_more a.bytes.now l.k (omega arith) l.invariant.1 c.before.before.put_byte.ensures)
 
 same_length : tie.Need-same-length invariant-loop decreases-loop
-same_length c = page-length c.before.loop.invariant.1
+same_length c = page_length c.before.loop.invariant.1
 
 returns : tie.Need-returns invariant-loop decreases-loop
 returns c = all_of _ c.before.loop.k (omega arith) c.before.loop.invariant.1

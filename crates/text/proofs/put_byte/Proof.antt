@@ -1,7 +1,7 @@
 -- `text::put_byte` meets its contract.
 -- Assumes nothing.
 use borrow.Author.Rules.{rules}
-use Rattle.text.proofs.WrittenLaws.{byte_past, byte-within}
+use Rattle.text.proofs.WrittenLaws.{byte_past, byte_within}
 use Rattle.text.proofs.put_byte.Statement.{statement}
 use Rattle.text.proofs.put_byte.Tie as tie
 
@@ -18,7 +18,7 @@ same_length : tie.Need-same-length
 same_length c = search rules
 
 returns-2 : tie.Need-returns-2
-returns-2 c = byte-within _ _ _ c.if1.false (search rules)
+returns-2 c = byte_within _ _ _ c.if1.false (search rules)
 
-pub put-byte-spec : {M : Type 1} → statement M
-put-byte-spec = tie.close (tie.spec returns slice-write-page add-result same_length returns-2)
+pub put_byte_spec : {M : Type 1} → statement M
+put_byte_spec = tie.close (tie.spec returns slice-write-page add-result same_length returns-2)

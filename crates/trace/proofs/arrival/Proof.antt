@@ -1,13 +1,13 @@
 -- `trace::arrival` meets its contract.
 -- Assumes nothing.
 use borrow.Author.Rules.{rules}
-use Rattle.trace.specs.Slots.{arrivalOf}
+use Rattle.trace.specs.Slots.{arrival_of}
 use mathlib.Core.Path.{◌≡◌, refl, sym, ◌∙◌, ap}
 use native.Mathlib.Omega.{arith}
 use Prim.Native.Nat.{ℕ, ◌*◌, ◌+◌, min}
 use native.Mathlib.Nat.{add-zero, add_assoc}
 use Rattle.base.proofs.Lists.{get_d_kept}
-use Rattle.trace.specs.Reading.{word, portByte}
+use Rattle.trace.specs.Reading.{word, port_byte}
 use lib.ListN.{length, get_or}
 use Rattle.trace.proofs.arrival.Statement.{statement}
 use Rattle.trace.proofs.arrival.Tie as tie
@@ -37,7 +37,7 @@ cast-t9 : tie.Need-overflow-cast-t9
 cast-t9 c = search rules
 
 returns : tie.Need-returns
-unfolding arrivalOf portByte
+unfolding arrival_of port_byte
 returns c = let a = c.before.before.before.before.before.args in
     let s = a.trace.now in
     let p : ℕ = word s 32 + 2 * a.a in
@@ -49,8 +49,8 @@ returns c = let a = c.before.before.before.before.before.args in
     c.byte2.ensures.0 ∙ ap (λ (n : ℕ). get_or s (n + 1) 0) at ∙ get_d_kept s p 1 ∙ ap (λ (n : ℕ). get_or s n 0) (add_assoc _ _ 1) in
     λ i. record { input = first i; output = second i }
 
-pub arrival-spec : {M : Type 1} → statement M
-arrival-spec =
+pub arrival_spec : {M : Type 1} → statement M
+arrival_spec =
     tie.close
     (tie.spec
     word-requires

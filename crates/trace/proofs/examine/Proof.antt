@@ -3,8 +3,8 @@
 use borrow.Author.Rules.{rules}
 use native.Mathlib.Omega.{arith}
 use mathlib.Core.Path.{◌≡◌, refl, sym, ◌∙◌, ap}
-use Rattle.trace.proofs.ReadingLaws.{too_short, header_refused, body_refused, nothing-refused}
-use Rattle.layout.proofs.HeaderLaws.{laid-at}
+use Rattle.trace.proofs.ReadingLaws.{too_short, header_refused, body_refused, nothing_refused}
+use Rattle.layout.proofs.HeaderLaws.{laid_at}
 use Rattle.trace.proofs.examine.Statement.{statement}
 use Rattle.trace.proofs.examine.Tie as tie
 
@@ -24,12 +24,12 @@ enum-known-places : tie.Need-enum-known-places
 enum-known-places c = search rules
 
 body-refusal-requires : tie.Need-body-refusal-requires
-body-refusal-requires c κs = laid-at _ _ (sym c.before.before.before.lay-out.ensures ∙ c.before.places.given.1)
+body-refusal-requires c κs = laid_at _ _ (sym c.before.before.before.lay-out.ensures ∙ c.before.places.given.1)
 
 returns-2 : tie.Need-returns-2
 returns-2 c = let s = c.before.before.before.before.before.before.before.before.before.args.trace.now in
     let h = c.before.before.before.before.before.before.header in
-    let at = laid-at _ _ (sym c.before.before.before.before.before.lay-out.ensures ∙ c.before.before.before.places.given.1) in
+    let at = laid_at _ _ (sym c.before.before.before.before.before.lay-out.ensures ∙ c.before.before.before.places.given.1) in
     sym (body_refused s h.result h.ensures (omega arith) _ at.0 c.before.body-refusal.ensures c.if2.true)
 
 returns-3 : tie.Need-returns-3
@@ -40,11 +40,11 @@ returns-3 c = let s = c.before.before.before.before.before.before.before.args.tr
 returns-4 : tie.Need-returns-4
 returns-4 c = let s = c.before.before.before.before.before.before.before.before.before.args.trace.now in
     let h = c.before.before.before.before.before.before.header in
-    let at = laid-at _ _ (sym c.before.before.before.before.before.lay-out.ensures ∙ c.before.before.before.places.given.1) in
-    sym (nothing-refused s h.result h.ensures (omega arith) at.0 (sym c.before.body-refusal.ensures ∙ c.if2.false))
+    let at = laid_at _ _ (sym c.before.before.before.before.before.lay-out.ensures ∙ c.before.before.before.places.given.1) in
+    sym (nothing_refused s h.result h.ensures (omega arith) at.0 (sym c.before.body-refusal.ensures ∙ c.if2.false))
 
-pub examine-spec : {M : Type 1} → statement M
-examine-spec =
+pub examine_spec : {M : Type 1} → statement M
+examine_spec =
     tie.close
     (tie.spec
     returns

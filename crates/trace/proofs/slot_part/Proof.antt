@@ -4,10 +4,10 @@ use borrow.Author.Rules.{rules}
 use mathlib.Core.Path.{◌≡◌, refl, sym, ◌∙◌, ap}
 use native.Mathlib.Omega.{arith}
 use Prim.Native.Nat.{ℕ, ◌+◌, ◌*◌}
-use Rattle.base.specs.Below.{sumBelow}
+use Rattle.base.specs.Below.{sum_below}
 use Rattle.trace.specs.Reading.{half}
-use Rattle.trace.specs.Slots.{standing, slotPart, part_at}
-use Rattle.trace.proofs.SlotsLaws.{stands-below, slots-few, part-at}
+use Rattle.trace.specs.Slots.{standing, slot_part, part_at}
+use Rattle.trace.proofs.SlotsLaws.{stands_below, slots_few, part_at_lem}
 use Rattle.trace.proofs.slot_part.Statement.{statement}
 use Rattle.trace.proofs.slot_part.Tie as tie
 
@@ -25,8 +25,8 @@ cast-sum c = search rules
 
 cast-sum-2 : tie.Need-overflow-cast-sum-2
 cast-sum-2 c = let a = c.before.before.before.before.before.args in
-    let t = stands-below a.trace.now a.t (sym c.before.before.before.stands.ensures ∙ c.before.enum_told.given.1) in
-    omega (arith, slots-few a.trace.now t.0)
+    let t = stands_below a.trace.now a.t (sym c.before.before.before.stands.ensures ∙ c.before.enum_told.given.1) in
+    omega (arith, slots_few a.trace.now t.0)
 
 sum-requires : tie.Need-sum-requires
 sum-requires c κs = search rules
@@ -61,18 +61,18 @@ part-result-end-2 c = search rules
 returns : tie.Need-returns
 returns c = let a = c.before.before.before.before.before.before.before.args in
     c.part-from.ensures
-    ∙ part-at a.trace.now a.t _ (sym c.before.before.before.before.before.stands.ensures ∙ c.before.before.before.enum_told.given.1) (c.before.sum.ensures ∙ ap (λ (at : ℕ). sumBelow (λ t. half a.trace.now (at + 2 * t)) a.t) c.before.before.word.ensures)
+    ∙ part_at_lem a.trace.now a.t _ (sym c.before.before.before.before.before.stands.ensures ∙ c.before.before.before.enum_told.given.1) (c.before.sum.ensures ∙ ap (λ (at : ℕ). sum_below (λ t. half a.trace.now (at + 2 * t)) a.t) c.before.before.word.ensures)
 
 returns-2 : tie.Need-returns-2
-unfolding slotPart part_at
+unfolding slot_part part_at
 returns-2 c = rw (sym c.before.before.before.stands.ensures ∙ c.before.enum-told2.given.1)
 
 returns-3 : tie.Need-returns-3
-unfolding slotPart part_at
+unfolding slot_part part_at
 returns-3 c = rw (sym c.before.before.before.stands.ensures ∙ c.before.enum-told3.given.1)
 
-pub slot-part-spec : {M : Type 1} → statement M
-slot-part-spec =
+pub slot_part_spec : {M : Type 1} → statement M
+slot_part_spec =
     tie.close
     (tie.spec
     stands-requires

@@ -6,11 +6,11 @@ use mathlib.Core.Path.{◌≡◌, refl, sym, ◌∙◌, ap}
 use Prim.Native.Nat.{ℕ}
 use lib.Dec.{eqb}
 use Rattle.base.proofs.Refusal.{chained, tested}
-use Rattle.layout.proofs.HeaderLaws.{allowed, places-small}
+use Rattle.layout.proofs.HeaderLaws.{allowed, places_small}
 use Rattle.layout.specs.declared.Places.{Places}
 use Rattle.layout.specs.Header.{places_of}
-use Rattle.layout.specs.Tables.{tablesRefusal}
-use Rattle.trace.proofs.ReadingLaws.{capacities-judged, counts-judged, ports-judged}
+use Rattle.layout.specs.Tables.{tables_refusal}
+use Rattle.trace.proofs.ReadingLaws.{capacities_judged, counts_judged, ports_judged}
 use Rattle.trace.proofs.tables_refusal.Statement.{statement}
 use Rattle.trace.proofs.tables_refusal.Tie as tie
 
@@ -36,7 +36,7 @@ cast-ports-below : tie.Need-overflow-cast-ports-below
 unfolding places_of
 cast-ports-below c = let a = c.before.before.before.before.before.before.before.args in
     let p = c.before.before.before.before.before.before.before.requires in
-    omega (arith, places-small a.header p.0, ap (λ (q : Places). q.arrivals) p.1)
+    omega (arith, places_small a.header p.0, ap (λ (q : Places). q.arrivals) p.1)
 
 mul-ports-below : tie.Need-overflow-mul-ports-below
 mul-ports-below c = omega (arith, allowed c.before.before.before.before.before.before.before.args.header c.before.before.before.before.before.before.before.requires.0)
@@ -54,23 +54,23 @@ first-requires-2 : tie.Need-first-requires-2
 first-requires-2 c κs = search rules
 
 returns : tie.Need-returns
-unfolding tablesRefusal
+unfolding tables_refusal
 returns c = let a = c.before.before.before.before.before.before.before.before.before.before.before.args in
     let p = c.before.before.before.before.before.before.before.before.before.before.before.requires in
     let s = a.trace.now in
-    let nine = capacities-judged s a.header a.places p.1 p.2 in
-    let ten = counts-judged s a.header a.places p.1 p.2 in
-    let eleven = ports-judged s a.header a.places p.1 p.2 in
+    let nine = capacities_judged s a.header a.places p.1 p.2 in
+    let ten = counts_judged s a.header a.places p.1 p.2 in
+    let eleven = ports_judged s a.header a.places p.1 p.2 in
     let counted = c.before.before.before.before.before in
     let allowed = counted.before.before in
     chained c.first2.ensures
     (tested 9 allowed.unless.ensures (allowed.before.capacities-allowed.ensures ∙ nine))
     (chained c.before.first.ensures
     (tested 10 counted.unless2.ensures (ap (λ (n : ℕ). eqb n a.header.arrivals) counted.before.sum.ensures ∙ ten))
-    (tested 11 c.before.before.unless3.ensures (c.before.before.before.ports-below.ensures ∙ eleven)))
+    (tested 11 c.before.before.unless3.ensures (c.before.before.before.ports_below_lem.ensures ∙ eleven)))
 
-pub tables-refusal-spec : {M : Type 1} → statement M
-tables-refusal-spec =
+pub tables_refusal_spec : {M : Type 1} → statement M
+tables_refusal_spec =
     tie.close
     (tie.spec
     cast-slots

@@ -2,8 +2,8 @@
 -- Assumes nothing.
 use borrow.Author.Rules.{rules}
 use mathlib.Core.Path.{sym, ◌∙◌}
-use Rattle.layout.proofs.HeaderLaws.{laid-at}
-use Rattle.trace_write.proofs.WritingLaws.{refused-by-header, refused-by-body, fillable, filled-out}
+use Rattle.layout.proofs.HeaderLaws.{laid_at}
+use Rattle.trace_write.proofs.WritingLaws.{refused_by_header, refused_by_body, fillable, filled_out}
 use Rattle.trace_write.proofs.write.Statement.{statement}
 use Rattle.trace_write.proofs.write.Tie as tie
 
@@ -17,14 +17,14 @@ enum-known-places : tie.Need-enum-known-places
 enum-known-places c = search rules
 
 refusal-requires : tie.Need-refusal-requires
-refusal-requires c κs = laid-at c.before.before.before.before.before.before.before.before.args.header _ (sym c.before.before.before.lay-out.ensures ∙ c.before.places.given.1)
+refusal-requires c κs = laid_at c.before.before.before.before.before.before.before.before.args.header _ (sym c.before.before.before.lay-out.ensures ∙ c.before.places.given.1)
 
 returns : tie.Need-returns
 returns c =
     let judged = c.before in
     let laid = judged.before.before.before.before in
     let a = laid.before.before.before.before.before.args in
-    refused-by-body a.header a.capacities.now a.counts.now a.ports.now a.out.now laid.lay-out.ensures _ _
+    refused_by_body a.header a.capacities.now a.counts.now a.ports.now a.out.now laid.lay-out.ensures _ _
     judged.before.before.places.given.1
     judged.refusal.ensures
     c.if1.true
@@ -43,7 +43,7 @@ returns-2 : tie.Need-returns-2
 returns-2 c =
     let laid = c.before.before.before in
     let a = laid.before.before.before.before.before.args in
-    refused-by-header a.header a.capacities.now a.counts.now a.ports.now a.out.now laid.lay-out.ensures _ c.before.n.given.1
+    refused_by_header a.header a.capacities.now a.counts.now a.ports.now a.out.now laid.lay-out.ensures _ c.before.n.given.1
 
 same_length : tie.Need-same-length
 same_length c = search rules
@@ -53,7 +53,7 @@ returns-3 c =
     let judged = c.before.before.before.before.before in
     let laid = judged.before.before.before.before in
     let a = laid.before.before.before.before.before.args in
-    filled-out a.header a.capacities.now a.counts.now a.ports.now a.out.now laid.lay-out.ensures _ _
+    filled_out a.header a.capacities.now a.counts.now a.ports.now a.out.now laid.lay-out.ensures _ _
     judged.before.before.places.given.1
     judged.refusal.ensures
     c.before.before.before.before.if1.false

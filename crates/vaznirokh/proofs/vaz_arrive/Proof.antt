@@ -1,7 +1,7 @@
 -- `vaznirokh::vaz_arrive` meets its contract: the lengths decide, and then the arrival.
 -- Assumes nothing.
 use borrow.Author.Rules.{rules}
-use Rattle.vaznirokh.specs.Library.{vazArrive, vazArriveState, vazArriveAnswer}
+use Rattle.vaznirokh.specs.Library.{vaz_arrive, vaz_arrive_state, vaz_arrive_answer}
 use Rattle.vaznirokh.proofs.LibraryLaws.{both_right, stopped, untouched, went_on, filled}
 use Rattle.vaznirokh.proofs.vaz_arrive.Statement.{statement}
 use Rattle.vaznirokh.proofs.vaz_arrive.Tie as tie
@@ -16,7 +16,7 @@ same-length-2 : tie.Need-same-length-2
 same-length-2 c = search rules
 
 returns : tie.Need-returns
-unfolding vazArrive vazArriveState vazArriveAnswer
+unfolding vaz_arrive vaz_arrive_state vaz_arrive_answer
 returns c =
     let e = c.before.lengths-number.ensures in
     (stopped _ _ _ e c.if1.true, (untouched _ _ _ _ _ e c.if1.true, untouched _ _ _ _ _ e c.if1.true))
@@ -33,15 +33,15 @@ same-length-4 : tie.Need-same-length-4
 same-length-4 c = search rules
 
 returns-2 : tie.Need-returns-2
-unfolding vazArrive vazArriveState vazArriveAnswer
+unfolding vaz_arrive vaz_arrive_state vaz_arrive_answer
 returns-2 c =
     let e = c.before.before.before.before.before.before.before.before.lengths-number.ensures in
     let z = c.before.before.before.before.before.before.before.if1.false in
     let w = c.before.before.before.before.arrive.ensures in
     (went_on _ _ _ _ e z w.0, (filled _ _ _ _ _ _ _ e z w.0 w.1.0, filled _ _ _ _ _ _ _ e z w.0 w.1.1))
 
-pub vaz-arrive-spec : {M : Type 1} → statement M
-vaz-arrive-spec =
+pub vaz_arrive_spec : {M : Type 1} → statement M
+vaz_arrive_spec =
     tie.close
     (tie.spec
     lengths-number-requires

@@ -2,8 +2,8 @@
 -- Assumes nothing.
 use borrow.Author.Rules.{rules}
 use mathlib.Core.Path.{◌∙◌, ap}
-use Rattle.trace.specs.Reading.{refusalOf}
-use Rattle.vaznirokh.specs.Library.{vazExamine}
+use Rattle.trace.specs.Reading.{refusal_of}
+use Rattle.vaznirokh.specs.Library.{vaz_examine}
 use Rattle.vaznirokh.proofs.vaz_examine.Statement.{statement}
 use Rattle.vaznirokh.proofs.vaz_examine.Tie as tie
 
@@ -14,8 +14,8 @@ verdict-number-requires : tie.Need-verdict-number-requires
 verdict-number-requires c κs = search rules
 
 returns : tie.Need-returns
-unfolding vazExamine
-returns c = c.verdict-number.ensures ∙ ap refusalOf c.before.examine.ensures
+unfolding vaz_examine
+returns c = c.verdict-number.ensures ∙ ap refusal_of c.before.examine.ensures
 
-pub vaz-examine-spec : {M : Type 1} → statement M
-vaz-examine-spec = tie.close (tie.spec examine-requires verdict-number-requires returns)
+pub vaz_examine_spec : {M : Type 1} → statement M
+vaz_examine_spec = tie.close (tie.spec examine-requires verdict-number-requires returns)

@@ -6,8 +6,8 @@ use Prim.Native.Nat.{◌-◌}
 use mathlib.Core.Path.{◌≡◌, ap, ◌∙◌}
 use Rattle.switch.specs.Switch.{held}
 use Rattle.text.specs.Text.{ascii, line}
-use Rattle.text.proofs.WrittenLaws.{then, same, page-length}
-use Rattle.report.specs.Report.{countLines}
+use Rattle.text.proofs.WrittenLaws.{then, same, page_length}
+use Rattle.report.specs.Report.{count_lines}
 use Rattle.report.proofs.report.count_lines.Statement.{statement}
 use Rattle.report.proofs.report.count_lines.Tie as tie
 
@@ -60,10 +60,10 @@ same_length c =
     let crossed = outmoved.before.before.before.before.before in
     let dropped = crossed.before.before.before.before.before in
     let arrived = dropped.before.before.before.before.before in
-    page-length c.before.before.line6.ensures ∙ page-length sent.line5.ensures ∙ page-length outmoved.line4.ensures ∙ page-length crossed.line3.ensures ∙ page-length dropped.line2.ensures ∙ page-length arrived.line.ensures
+    page_length c.before.before.line6.ensures ∙ page_length sent.line5.ensures ∙ page_length outmoved.line4.ensures ∙ page_length crossed.line3.ensures ∙ page_length dropped.line2.ensures ∙ page_length arrived.line.ensures
 
 returns : tie.Need-returns
-unfolding countLines ascii
+unfolding count_lines ascii
 returns c =
     let sent = c.before.before.before.before.before.before.before in
     let outmoved = sent.before.before.before.before.before in
@@ -76,8 +76,8 @@ returns c =
     (then (then (then (then arrived.line.ensures dropped.line2.ensures) crossed.line3.ensures) outmoved.line4.ensures) sent.line5.ensures)
     (same (ap (line (ascii "held")) left) c.before.before.line6.ensures)
 
-pub count-lines-spec : {M : Type 1} → statement M
-count-lines-spec =
+pub count_lines_spec : {M : Type 1} → statement M
+count_lines_spec =
     tie.close
     (tie.spec
     sub_held

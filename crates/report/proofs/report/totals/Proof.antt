@@ -6,7 +6,7 @@ use mathlib.Core.Path.{ap}
 use Rattle.text.specs.Text.{ascii, line}
 use Rattle.text.proofs.WrittenLaws.{then, same}
 use Rattle.report.specs.Report.{totals}
-use Rattle.report.proofs.ReportLaws.{loss-small}
+use Rattle.report.proofs.ReportLaws.{loss_small}
 use Rattle.report.proofs.report.totals.Statement.{statement}
 use Rattle.report.proofs.report.totals.Tie as tie
 
@@ -20,7 +20,7 @@ cast-lost : tie.Need-overflow-cast-lost
 cast-lost c =
     let start = c.before.before.before.before.before.before in
     let s = start.args.s in
-    let few = loss-small s.dropped s.arrived (omega (arith, start.requires)) in
+    let few = loss_small s.dropped s.arrived (omega (arith, start.requires)) in
     omega (arith, c.per-thousand.ensures)
 
 slice-aggregate-line : tie.Need-slice-aggregate-line
@@ -48,8 +48,8 @@ returns c =
     (then counts.count-lines.ensures (same (ap (line (ascii "per-thousand")) lost.per-thousand.ensures) loss.line.ensures))
     c.before.before.line2.ensures
 
-pub totals-spec : {M : Type 1} → statement M
-totals-spec =
+pub totals_spec : {M : Type 1} → statement M
+totals_spec =
     tie.close
     (tie.spec
     count-lines-requires

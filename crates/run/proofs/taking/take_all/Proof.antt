@@ -8,7 +8,7 @@ use mathlib.Core.List.{List}
 use lib.ListN.{length}
 use Rattle.queues.specs.declared.Queues.{Queues}
 use Rattle.run.specs.Taking.{takings, Taken}
-use Rattle.run.proofs.TakingLaws.{one-dropped, nothing-taken, taken_more}
+use Rattle.run.proofs.TakingLaws.{one_dropped, nothing_taken, taken_more}
 use mathlib.Core.List.{[]}
 use lib.ListN.{get_or}
 use Rattle.queues.specs.Slot.{arrival}
@@ -22,7 +22,7 @@ abbrev decreases-loop : tie.decreases-loop
 decreases-loop part slot incap inlen₀ log₀ at n dropped₀ place₀ k₀ inlen log dropped place k = n - k
 
 loop-holds : tie.Need-loop-init invariant-loop decreases-loop
-loop-holds c = (search rules, refl, refl, search rules, λ q ec el. nothing-taken q _ _ _ _ _ el)
+loop-holds c = (search rules, refl, refl, search rules, λ q ec el. nothing_taken q _ _ _ _ _ el)
 
 mul-take-one : tie.Need-overflow-mul-take-one invariant-loop decreases-loop
 mul-take-one c = omega arith
@@ -46,7 +46,7 @@ add-dropped : tie.Need-overflow-add-dropped invariant-loop decreases-loop
 add-dropped c = let a = c.before.before.before.before.before.before.before.before.before.before.before.before.before.before.before.before.args in
     let l = c.before.before.before.before.before.before.before.before.before.before.before.loop in
     let q : Queues = (record { incap = c.before.before.before.before.before.before.before.before.before.before.before.before.before.before.before.before.args.incap.now; outcap = []; crosscap = []; inlen = l.inlen; outlen = []; crosslen = [] }) in
-    let d : c.before.before.before.before.before.take-one.result.dropped ≤ 1 = rw (c.before.before.before.before.before.take-one.ensures q refl refl).of-dropped (one-dropped q a.slot (get_or a.part.now (2 * l.k) 0) (get_or a.part.now (2 * l.k + 1) 0)) in
+    let d : c.before.before.before.before.before.take-one.result.dropped ≤ 1 = rw (c.before.before.before.before.before.take-one.ensures q refl refl).of_dropped (one_dropped q a.slot (get_or a.part.now (2 * l.k) 0) (get_or a.part.now (2 * l.k + 1) 0)) in
     let few : l.dropped ≤ l.k = l.invariant.3 in
     let n : length a.part.now ≤ 131072 = c.before.before.before.before.before.before.before.before.before.before.before.before.before.before.before.before.requires in
     let s : l.dropped + c.before.before.before.before.before.take-one.result.dropped < 4294967296 = omega arith in
@@ -62,7 +62,7 @@ loop-again : tie.Need-loop-preserved invariant-loop decreases-loop
 loop-again c = let a = c.before.before.before.before.before.before.before.before.before.before.before.before.before.before.before.before.args in
     let l = c.before.before.before.before.before.before.before.before.before.before.before.loop in
     let q : Queues = (record { incap = c.before.before.before.before.before.before.before.before.before.before.before.before.before.before.before.before.args.incap.now; outcap = []; crosscap = []; inlen = l.inlen; outlen = []; crosslen = [] }) in
-    let d : c.before.before.before.before.before.take-one.result.dropped ≤ 1 = rw (c.before.before.before.before.before.take-one.ensures q refl refl).of-dropped (one-dropped q a.slot (get_or a.part.now (2 * l.k) 0) (get_or a.part.now (2 * l.k + 1) 0)) in (
+    let d : c.before.before.before.before.before.take-one.result.dropped ≤ 1 = rw (c.before.before.before.before.before.take-one.ensures q refl refl).of_dropped (one_dropped q a.slot (get_or a.part.now (2 * l.k) 0) (get_or a.part.now (2 * l.k + 1) 0)) in (
       omega arith,
       c.before.before.before.before.before.take-one.auto.1.1.1.1.0 ∙ l.invariant.1,
       c.before.before.before.before.before.take-one.auto.1.1.1.1.1.0 ∙ l.invariant.2,

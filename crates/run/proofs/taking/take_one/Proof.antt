@@ -3,8 +3,8 @@
 use borrow.Author.Rules.{rules}
 use mathlib.Core.Path.{◌≡◌, refl, sym, ◌∙◌, ap}
 use Rattle.queues.specs.Queues.{place}
-use Rattle.queues.specs.Events.{acceptedAt, droppedAt}
-use Rattle.run.proofs.TakingLaws.{accepted-left, dropped-left}
+use Rattle.queues.specs.Events.{accepted_at, dropped_at}
+use Rattle.run.proofs.TakingLaws.{accepted_left, dropped_left}
 use Rattle.run.proofs.taking.take_one.Statement.{statement}
 use Rattle.run.proofs.taking.take_one.Tie as tie
 
@@ -33,10 +33,10 @@ same-length-2 : tie.Need-same-length-2
 same-length-2 c = search rules
 
 returns : tie.Need-returns
-unfolding place acceptedAt
+unfolding place accepted_at
 returns c = λ q ec el.
     let a = c.before.before.before.before.before.before.before.before.before.before.before.before.before.before.before.args in
-    accepted-left q a.slot a.input a.output a.incap.now a.inlen.now ec el _ a.log.now _ a.at _ _
+    accepted_left q a.slot a.input a.output a.incap.now a.inlen.now ec el _ a.log.now _ a.at _ _
     (sym c.before.before.before.before.before.before.before.before.before.before.has_room.ensures ∙ c.before.before.before.before.before.before.before.before.before.if1.true) c.before.before.before.before.before.before.before.join.ensures c.before.before.before.word.ensures c.before.before.emit.ensures.0 c.before.before.emit.ensures.1
 
 word-requires-2 : tie.Need-word-requires-2
@@ -52,14 +52,14 @@ same-length-4 : tie.Need-same-length-4
 same-length-4 c = search rules
 
 returns-2 : tie.Need-returns-2
-unfolding place droppedAt
+unfolding place dropped_at
 returns-2 c = λ q ec el.
     let a = c.before.before.before.before.before.before.before.before.before.before.before.args in
-    dropped-left q a.slot a.input a.output a.incap.now a.inlen.now ec el a.log.now _ a.at _ _
+    dropped_left q a.slot a.input a.output a.incap.now a.inlen.now ec el a.log.now _ a.at _ _
     (sym c.before.before.before.before.before.before.has_room.ensures ∙ c.before.before.before.before.before.if1.false) c.before.before.before.word2.ensures c.before.before.emit2.ensures.0 c.before.before.emit2.ensures.1
 
-pub take-one-spec : {M : Type 1} → statement M
-take-one-spec =
+pub take_one_spec : {M : Type 1} → statement M
+take_one_spec =
     tie.close
     (tie.spec
     mul-k

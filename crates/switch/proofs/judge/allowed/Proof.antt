@@ -3,8 +3,8 @@
 use borrow.Author.Rules.{rules}
 use mathlib.Core.Path.{◌≡◌, refl, sym, ◌∙◌, ap, ap₂}
 use mathlib.Core.Bool.{Bool, ◌&&◌}
-use Rattle.layout.specs.Header.{orderAllowed}
-use Rattle.switch.specs.Allowed.{switchAllowed}
+use Rattle.layout.specs.Header.{order_allowed}
+use Rattle.switch.specs.Allowed.{switch_allowed}
 use lib.Dec.{leb}
 use Rattle.switch.proofs.judge.allowed.Statement.{statement}
 use Rattle.switch.proofs.judge.allowed.Tie as tie
@@ -46,14 +46,14 @@ both-requires-7 : tie.Need-both-requires-7
 both-requires-7 c κs = search rules
 
 returns : tie.Need-returns
-unfolding switchAllowed orderAllowed
+unfolding switch_allowed order_allowed
 returns c = let s = c.before.before.before.before.before.before.before.before.before.before.before.before.before.before.before.before.args.s in
     c.both7.ensures
     ∙ ap₂ ◌&&◌ c.before.before.before.before.before.before.before.before.before.before.before.before.before.before.model-allowed.ensures
     (c.before.both6.ensures
     ∙ ap (λ (x : Bool). leb s.order 2 && x)
     (c.before.before.both5.ensures
-    ∙ ap₂ ◌&&◌ c.before.before.before.before.before.before.before.before.before.before.before.before.side-allowed.ensures
+    ∙ ap₂ ◌&&◌ c.before.before.before.before.before.before.before.before.before.before.before.before.side_allowed_lem.ensures
     (c.before.before.before.both4.ensures
     ∙ ap₂ ◌&&◌ c.before.before.before.before.before.before.before.before.before.before.before.side-allowed2.ensures
     (c.before.before.before.before.both3.ensures
@@ -62,8 +62,8 @@ returns c = let s = c.before.before.before.before.before.before.before.before.be
     ∙ ap (λ (x : Bool). leb s.arrived 4096 && x)
     (c.before.before.before.before.before.before.both.ensures ∙ ap (λ (x : Bool). leb s.slot 8192 && x) c.before.before.before.before.before.before.before.counts-agree.ensures))))))
 
-pub allowed-spec : {M : Type 1} → statement M
-allowed-spec =
+pub allowed_spec : {M : Type 1} → statement M
+allowed_spec =
     tie.close
     (tie.spec
     model-allowed-requires

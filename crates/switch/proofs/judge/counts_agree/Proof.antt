@@ -2,8 +2,8 @@
 -- Assumes nothing.
 use borrow.Author.Rules.{rules}
 use mathlib.Core.Path.{◌≡◌, refl, sym, ◌∙◌, ap}
-use Rattle.switch.specs.Switch.{heldAll, held}
-use Rattle.switch.specs.Allowed.{countsAgree}
+use Rattle.switch.specs.Switch.{held_all, held}
+use Rattle.switch.specs.Allowed.{counts_agree}
 use Rattle.switch.proofs.judge.counts_agree.Statement.{statement}
 use Rattle.switch.proofs.judge.counts_agree.Tie as tie
 
@@ -14,9 +14,9 @@ sums-agree-requires : tie.Need-sums-agree-requires
 sums-agree-requires c κs = search rules
 
 returns : tie.Need-returns
-unfolding countsAgree held heldAll
+unfolding counts_agree held held_all
 returns c = let h = c.before.holds.ensures.0 in
     rw (← h.0, ← h.1, ← h.2) c.sums-agree.ensures
 
-pub counts-agree-spec : {M : Type 1} → statement M
-counts-agree-spec = tie.close (tie.spec holds-requires sums-agree-requires returns)
+pub counts_agree_spec : {M : Type 1} → statement M
+counts_agree_spec = tie.close (tie.spec holds-requires sums-agree-requires returns)

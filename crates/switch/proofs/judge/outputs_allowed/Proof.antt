@@ -9,14 +9,14 @@ use mathlib.Core.List.{List}
 use lib.ListN.{get_or}
 use borrow.Author.Tests.{not-true, not-false}
 use Rattle.base.specs.Below.{all_below}
-use Rattle.base.proofs.Below.{all_none, all_more, all-fails, all_done}
+use Rattle.base.proofs.Below.{all_none, all_more, all_fails, all_done}
 use lib.Dec.{ltb}
-use Rattle.switch.specs.Allowed.{queueAllowed}
+use Rattle.switch.specs.Allowed.{queue_allowed}
 use Rattle.switch.proofs.judge.outputs_allowed.Statement.{statement}
 use Rattle.switch.proofs.judge.outputs_allowed.Tie as tie
 
 abbrev good : ℕ → List ℕ → List ℕ → ℕ → Bool
-good ports cap len j = queueAllowed (ltb j ports) (get_or cap j 0) (get_or len j 0)
+good ports cap len j = queue_allowed (ltb j ports) (get_or cap j 0) (get_or len j 0)
 
 abbrev invariant-loop : tie.invariant-loop
 invariant-loop ports cap len j₀ j = (j ≤ 16) × (all_below (good ports cap len) j ≡ true)
@@ -45,7 +45,7 @@ queue-allowed-requires c κs = search rules
 returns : tie.Need-returns invariant-loop decreases-loop
 returns c = let a = c.before.before.before.before.before.before.args in
     let j = c.before.before.before.before.before.loop.j in
-    sym (all-fails (good a.ports a.cap.now a.len.now) 16 j (omega arith) (sym c.before.queue-allowed.ensures ∙ not-true _ c.if1.true))
+    sym (all_fails (good a.ports a.cap.now a.len.now) 16 j (omega arith) (sym c.before.queue-allowed.ensures ∙ not-true _ c.if1.true))
 
 add-j : tie.Need-overflow-add-j invariant-loop decreases-loop
 add-j c = omega arith
@@ -63,8 +63,8 @@ returns-2 c = let a = c.before.before.args in
     let l = c.before.loop in
     sym (all_done (good a.ports a.cap.now a.len.now) 16 l.j (omega arith) (omega arith) l.invariant.1)
 
-pub outputs-allowed-spec : {M : Type 1} → statement M
-outputs-allowed-spec =
+pub outputs_allowed_spec : {M : Type 1} → statement M
+outputs_allowed_spec =
     tie.close
     (tie.spec
     invariant-loop

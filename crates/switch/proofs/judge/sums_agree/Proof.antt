@@ -37,8 +37,8 @@ returns c = let a = c.before.before.before.before.before.before.args in
     let h = a.held in
     c.both2.ensures ∙ ap (λ (x : Bool). eqb a.arrived (a.dropped + a.sent + (h.inputs + h.outputs + h.crosspoints)) && x) c.before.both.ensures
 
-pub sums-agree-spec : {M : Type 1} → statement M
-sums-agree-spec =
+pub sums_agree_spec : {M : Type 1} → statement M
+sums_agree_spec =
     tie.close
     (tie.spec
     add-all

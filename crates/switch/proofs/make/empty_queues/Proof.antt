@@ -1,13 +1,13 @@
 -- `switch::make::empty_queues` meets its contract.
 -- Assumes nothing.
 use mathlib.Core.Path.{refl}
-use Rattle.switch.specs.Making.{emptyQueues}
+use Rattle.switch.specs.Making.{empty_queues}
 use Rattle.switch.proofs.make.empty_queues.Statement.{statement}
 use Rattle.switch.proofs.make.empty_queues.Tie as tie
 
 returns : tie.Need-returns
-unfolding emptyQueues
+unfolding empty_queues
 returns c = refl
 
-pub empty-queues-spec : {M : Type 1} → statement M
-empty-queues-spec = tie.close (tie.spec returns)
+pub empty_queues_spec : {M : Type 1} → statement M
+empty_queues_spec = tie.close (tie.spec returns)

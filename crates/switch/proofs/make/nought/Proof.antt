@@ -16,5 +16,5 @@ returns : tie.Need-returns
 unfolding nought
 returns c = c.unused.ensures ∙ ap (unused 0 0 0 0) c.before.empty-queues.ensures
 
-pub nought-spec : {M : Type 1} → statement M
-nought-spec = tie.close (tie.spec empty-queues-requires unused-requires returns)
+pub nought_spec : {M : Type 1} → statement M
+nought_spec = tie.close (tie.spec empty-queues-requires unused-requires returns)

@@ -11,7 +11,7 @@ use lib.ListN.{length, get_or}
 use Rattle.base.proofs.Listed.{fill_more, fill_done}
 use lib.Dec.{ltb}
 use Rattle.trace.specs.Reading.{capacity}
-use Rattle.switch.specs.Making.{outputCapacities}
+use Rattle.switch.specs.Making.{output_capacities}
 use Rattle.switch.proofs.make.output_capacities.Statement.{statement}
 use Rattle.switch.proofs.make.output_capacities.Tie as tie
 
@@ -50,13 +50,13 @@ loop-again c = let a = c.before.before.before.before.args in
     (omega arith, m.0, m.1)
 
 returns : tie.Need-returns invariant-loop decreases-loop
-unfolding outputCapacities
+unfolding output_capacities
 returns c = let a = c.before.before.before.args in
     let l = c.before.loop in
     fill_done (at a.trace.now a.ports) 16 l.places l.j (omega arith) l.invariant.1 l.invariant.2
 
-pub output-capacities-spec : {M : Type 1} → statement M
-output-capacities-spec =
+pub output_capacities_spec : {M : Type 1} → statement M
+output_capacities_spec =
     tie.close
     (tie.spec
     invariant-loop

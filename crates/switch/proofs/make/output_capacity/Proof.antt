@@ -23,6 +23,6 @@ returns c = rw (lt-ltb _ _ c.before.if1.true) c.capacity.ensures
 returns-2 : tie.Need-returns-2
 returns-2 c = rw (le-ltb _ _ c.if1.false)
 
-pub output-capacity-spec : {M : Type 1} → statement M
-output-capacity-spec =
+pub output_capacity_spec : {M : Type 1} → statement M
+output_capacity_spec =
     tie.close (tie.spec mul-capacity add-capacity capacity-requires returns returns-2)

@@ -9,14 +9,14 @@ use mathlib.Core.List.{List}
 use native.Mathlib.Nat.{not-suc-le-zero}
 use lib.ListN.{length, get_or}
 use Rattle.base.proofs.Listed.{fill_more, fill_done}
-use Rattle.switch.specs.Allowed.{usedPair}
-use Rattle.switch.specs.Making.{capacityOfPair}
+use Rattle.switch.specs.Allowed.{used_pair}
+use Rattle.switch.specs.Making.{capacity_of_pair}
 use Rattle.switch.proofs.make.pair_capacities.Statement.{statement}
 use Rattle.switch.proofs.make.pair_capacities.Tie as tie
 
 -- what stands at place k
 abbrev at : List ℕ → ℕ → ℕ → ℕ → ℕ
-at s ports from k = cond (usedPair ports k) (capacityOfPair s ports from k) 0
+at s ports from k = cond (used_pair ports k) (capacity_of_pair s ports from k) 0
 
 abbrev invariant-loop : tie.invariant-loop
 invariant-loop trace ports from places₀ k₀ places k = (k ≤ 256) × (length places ≡ 256) × ((m : ℕ) → m < k → get_or places m 0 ≡ at trace ports from m)
@@ -53,8 +53,8 @@ returns c = let a = c.before.before.before.args in
     let l = c.before.loop in
     fill_done (at a.trace.now a.ports a.from) 256 l.places l.k (omega arith) l.invariant.1 l.invariant.2
 
-pub pair-capacities-spec : {M : Type 1} → statement M
-pair-capacities-spec =
+pub pair_capacities_spec : {M : Type 1} → statement M
+pair_capacities_spec =
     tie.close
     (tie.spec
     invariant-loop

@@ -5,7 +5,7 @@ use native.Mathlib.Omega.{arith}
 use mathlib.Core.Path.{◌≡◌, refl, sym, ◌∙◌, ap}
 use Prim.Native.Nat.{ℕ, ◌≤◌, ◌/◌}
 use native.Mathlib.Nat.{mul-le-mul}
-use Rattle.switch.specs.Making.{capacityOfPair}
+use Rattle.switch.specs.Making.{capacity_of_pair}
 use Rattle.switch.proofs.make.pair_capacity.Statement.{statement}
 use Rattle.switch.proofs.make.pair_capacity.Tie as tie
 
@@ -28,14 +28,14 @@ capacity-requires : tie.Need-capacity-requires
 capacity-requires c κs = search rules
 
 returns : tie.Need-returns
-unfolding capacityOfPair
-returns c = rw (sym c.before.before.used_pair.ensures ∙ c.before.if1.true) c.capacity.ensures
+unfolding capacity_of_pair
+returns c = rw (sym c.before.before.used_pair_lem.ensures ∙ c.before.if1.true) c.capacity.ensures
 
 returns-2 : tie.Need-returns-2
-returns-2 c = rw (sym c.before.used_pair.ensures ∙ c.if1.false)
+returns-2 c = rw (sym c.before.used_pair_lem.ensures ∙ c.if1.false)
 
-pub pair-capacity-spec : {M : Type 1} → statement M
-pair-capacity-spec =
+pub pair_capacity_spec : {M : Type 1} → statement M
+pair_capacity_spec =
     tie.close
     (tie.spec
     used-pair-requires

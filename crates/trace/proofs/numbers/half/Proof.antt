@@ -3,7 +3,7 @@
 use borrow.Author.Rules.{rules}
 use native.Mathlib.Omega.{arith}
 use mathlib.Core.Path.{sym}
-use Rattle.base.proofs.Digits.{number-two, number_past}
+use Rattle.base.proofs.Digits.{number_two, number_past}
 use Rattle.trace.proofs.numbers.half.Statement.{statement}
 use Rattle.trace.proofs.numbers.half.Tie as tie
 
@@ -27,7 +27,7 @@ add-result c = search rules
 
 returns-2 : tie.Need-returns-2
 returns-2 c = let a = c.before.before.before.before.args in
-    (omega (arith, number-two a.s.now a.p), omega arith)
+    (omega (arith, number_two a.s.now a.p), omega arith)
 
 pub half_spec : {M : Type 1} → statement M
 half_spec =

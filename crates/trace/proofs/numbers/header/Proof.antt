@@ -1,7 +1,7 @@
 -- `trace::numbers::header` meets its contract.
 -- Assumes nothing.
 use borrow.Author.Rules.{rules}
-use Rattle.trace.specs.Reading.{headerOf}
+use Rattle.trace.specs.Reading.{header_of}
 use Rattle.trace.proofs.numbers.header.Statement.{statement}
 use Rattle.trace.proofs.numbers.header.Tie as tie
 
@@ -24,7 +24,7 @@ word-requires-6 : tie.Need-word-requires-6
 word-requires-6 c κs = search rules
 
 returns : tie.Need-returns
-unfolding headerOf
+unfolding header_of
 returns c =
     let speedup = c.before.before in
     let order = speedup.before.before in
@@ -38,8 +38,8 @@ returns c =
       arrivals = c.word6.ensures i;
     }
 
-pub header-spec : {M : Type 1} → statement M
-header-spec =
+pub header_spec : {M : Type 1} → statement M
+header_spec =
     tie.close
     (tie.spec
     word-requires

@@ -3,7 +3,7 @@
 use borrow.Author.Rules.{rules}
 use native.Mathlib.Omega.{arith}
 use mathlib.Core.Path.{sym}
-use Rattle.base.proofs.Digits.{number-four, number_past}
+use Rattle.base.proofs.Digits.{number_four, number_past}
 use Rattle.trace.proofs.numbers.word.Statement.{statement}
 use Rattle.trace.proofs.numbers.word.Tie as tie
 
@@ -27,9 +27,9 @@ add-result c = search rules
 
 returns-2 : tie.Need-returns-2
 returns-2 c = let a = c.before.before.before.before.args in
-    omega (arith, number-four a.s.now a.p)
+    omega (arith, number_four a.s.now a.p)
 
-pub word-spec : {M : Type 1} → statement M
-word-spec =
+pub word_spec : {M : Type 1} → statement M
+word_spec =
     tie.close
     (tie.spec returns half-requires add_half half-requires-2 mul-result add-result returns-2)

@@ -6,9 +6,9 @@ use mathlib.Core.Path.{◌≡◌, refl, sym, ◌∙◌, ap}
 use Prim.Native.Nat.{ℕ, ◌+◌, ◌*◌, ◌-◌, ◌≤◌}
 use mathlib.Core.Bool.{Bool, true}
 use Rattle.base.specs.Below.{all_below}
-use Rattle.base.proofs.Below.{all_none, all_more, all-fails, all_done}
+use Rattle.base.proofs.Below.{all_none, all_more, all_fails, all_done}
 use Rattle.trace.specs.Reading.{half}
-use Rattle.layout.specs.Tables.{capacityAllowed}
+use Rattle.layout.specs.Tables.{capacity_allowed}
 use mathlib.Core.List.{List}
 use borrow.Author.Tests.{not-true, not-false}
 use mathlib.Core.Bool.{false}
@@ -17,7 +17,7 @@ use Rattle.trace.proofs.tables.capacities_allowed.Tie as tie
 
 -- the test that each capacity has to pass
 abbrev good : List ℕ → ℕ → ℕ → Bool
-good s at k = capacityAllowed (half s (at + 2 * k))
+good s at k = capacity_allowed (half s (at + 2 * k))
 
 abbrev invariant-loop : tie.invariant-loop
 invariant-loop trace at count k₀ k = (k ≤ count) × (all_below (good trace at) k ≡ true)
@@ -38,8 +38,8 @@ returns : tie.Need-returns invariant-loop decreases-loop
 returns c = let a = c.before.before.before.before.before.before.args in
     let k = c.before.before.before.before.loop.k in
     sym
-    (all-fails (good a.trace.now a.at) a.count k (omega arith)
-    (ap capacityAllowed (sym c.before.before.entry.ensures.0) ∙ sym c.before.capacity-allowed.ensures ∙ not-true _ c.if1.true))
+    (all_fails (good a.trace.now a.at) a.count k (omega arith)
+    (ap capacity_allowed (sym c.before.before.entry.ensures.0) ∙ sym c.before.capacity-allowed.ensures ∙ not-true _ c.if1.true))
 
 add-k : tie.Need-overflow-add-k invariant-loop decreases-loop
 add-k c = omega arith
@@ -52,15 +52,15 @@ loop-again c = let a = c.before.before.before.before.before.before.args in
     let k = c.before.before.before.before.loop.k in (
       omega arith,
       all_more (good a.trace.now a.at) k c.before.before.before.before.loop.invariant.1
-          (ap capacityAllowed (sym c.before.before.entry.ensures.0) ∙ sym c.before.capacity-allowed.ensures ∙ not-false _ c.if1.false),
+          (ap capacity_allowed (sym c.before.before.entry.ensures.0) ∙ sym c.before.capacity-allowed.ensures ∙ not-false _ c.if1.false),
     )
 
 returns-2 : tie.Need-returns-2 invariant-loop decreases-loop
 returns-2 c = let a = c.before.before.before.args in
     sym (all_done (good a.trace.now a.at) a.count c.before.loop.k (omega arith) (omega arith) c.before.loop.invariant.1)
 
-pub capacities-allowed-spec : {M : Type 1} → statement M
-capacities-allowed-spec =
+pub capacities_allowed_spec : {M : Type 1} → statement M
+capacities_allowed_spec =
     tie.close
     (tie.spec
     invariant-loop

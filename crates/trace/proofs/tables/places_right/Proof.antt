@@ -5,7 +5,7 @@ use Prim.Native.Nat.{ℕ}
 use mathlib.Core.Path.{refl, ap}
 use lib.Dec.{eqb}
 use Rattle.base.proofs.Below.{joined}
-use Rattle.trace.specs.Reading.{placesRight}
+use Rattle.trace.specs.Reading.{places_right}
 use Rattle.trace.proofs.tables.places_right.Statement.{statement}
 use Rattle.trace.proofs.tables.places_right.Tie as tie
 
@@ -46,7 +46,7 @@ both-requires-4 : tie.Need-both-requires-4
 both-requires-4 c κs = search rules
 
 returns : tie.Need-returns
-unfolding placesRight
+unfolding places_right
 returns c =
     let p = c.before.before.before.before.before.before.before.before.before.before.before.before.before.args.places in
     let total = c.before.before.before.before.before.before in
@@ -57,8 +57,8 @@ returns c =
     (joined c.before.before.both2.ensures (ap (λ (n : ℕ). eqb n p.arrivals) arrivals.word3.ensures)
     (joined c.before.before.before.both.ensures (ap (λ (n : ℕ). eqb n p.total) total.word4.ensures) refl)))
 
-pub places-right-spec : {M : Type 1} → statement M
-places-right-spec =
+pub places_right_spec : {M : Type 1} → statement M
+places_right_spec =
     tie.close
     (tie.spec
     word-requires

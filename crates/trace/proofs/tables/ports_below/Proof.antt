@@ -8,7 +8,7 @@ use mathlib.Core.Bool.{Bool, true}
 use lib.Dec.{ltb}
 use Rattle.base.specs.Digits.{byte}
 use Rattle.base.specs.Below.{all_below}
-use Rattle.base.proofs.Below.{all_none, all_more, all-fails, all_done}
+use Rattle.base.proofs.Below.{all_none, all_more, all_fails, all_done}
 use mathlib.Core.List.{List}
 use mathlib.Core.Bool.{false}
 use borrow.Author.Tests.{lt-ltb, le-ltb}
@@ -38,7 +38,7 @@ returns : tie.Need-returns invariant-loop decreases-loop
 returns c = let a = c.before.before.before.before.before.args in
     let k = c.before.before.before.loop.b in
     sym
-    (all-fails (good a.trace.now a.at a.n) a.count k (omega arith)
+    (all_fails (good a.trace.now a.at a.n) a.count k (omega arith)
     (le-ltb (byte a.trace.now (a.at + k)) a.n (omega arith)))
 
 add-b : tie.Need-overflow-add-b invariant-loop decreases-loop
@@ -59,8 +59,8 @@ returns-2 : tie.Need-returns-2 invariant-loop decreases-loop
 returns-2 c = let a = c.before.before.before.args in
     sym (all_done (good a.trace.now a.at a.n) a.count c.before.loop.b (omega arith) (omega arith) c.before.loop.invariant.1)
 
-pub ports-below-spec : {M : Type 1} → statement M
-ports-below-spec =
+pub ports_below_spec : {M : Type 1} → statement M
+ports_below_spec =
     tie.close
     (tie.spec
     invariant-loop

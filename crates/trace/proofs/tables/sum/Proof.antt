@@ -4,8 +4,8 @@ use borrow.Author.Rules.{rules}
 use native.Mathlib.Omega.{arith}
 use mathlib.Core.Path.{◌≡◌, refl, sym, ◌∙◌, ap}
 use Prim.Native.Nat.{ℕ, ◌+◌, ◌*◌, ◌-◌, ◌≤◌}
-use Rattle.base.specs.Below.{sumBelow}
-use Rattle.base.proofs.Below.{sum-none, sum_more}
+use Rattle.base.specs.Below.{sum_below}
+use Rattle.base.proofs.Below.{sum_none, sum_more}
 use Rattle.trace.specs.Reading.{half}
 use mathlib.Core.List.{List}
 use Rattle.base.proofs.Below.{sum_done}
@@ -16,13 +16,13 @@ abbrev count : List ℕ → ℕ → ℕ → ℕ
 count s at t = half s (at + 2 * t)
 
 abbrev invariant-loop : tie.invariant-loop
-invariant-loop trace at slots end sum₀ t₀ sum t = (t ≤ end) × (sum ≡ sumBelow (count trace at) t) × (sum ≤ 65535 * t)
+invariant-loop trace at slots end sum₀ t₀ sum t = (t ≤ end) × (sum ≡ sum_below (count trace at) t) × (sum ≤ 65535 * t)
 
 abbrev decreases-loop : tie.decreases-loop
 decreases-loop trace at slots end sum₀ t₀ sum t = end - t
 
 loop-holds : tie.Need-loop-init invariant-loop decreases-loop
-loop-holds c = (search rules, sym (sum-none _), search rules)
+loop-holds c = (search rules, sym (sum_none _), search rules)
 
 entry-requires : tie.Need-entry-requires invariant-loop decreases-loop
 entry-requires c κs = search rules
@@ -48,8 +48,8 @@ returns : tie.Need-returns invariant-loop decreases-loop
 returns c = let a = c.before.before.before.args in
     sum_done (count a.trace.now a.at) a.slots c.before.loop.t _ (omega arith) (omega arith) c.before.loop.invariant.1
 
-pub sum-spec : {M : Type 1} → statement M
-sum-spec =
+pub sum_spec : {M : Type 1} → statement M
+sum_spec =
     tie.close
     (tie.spec
     invariant-loop

@@ -7,7 +7,7 @@ use lib.Dec.{eqb}
 use Rattle.base.proofs.Below.{joined}
 use Rattle.layout.specs.declared.Places.{Places}
 use Rattle.layout.specs.Header.{places_of}
-use Rattle.trace_write.specs.Writing.{lengthsRight}
+use Rattle.trace_write.specs.Writing.{lengths_right}
 use Rattle.trace_write.proofs.lent.lengths_right.Statement.{statement}
 use Rattle.trace_write.proofs.lent.lengths_right.Tie as tie
 
@@ -27,13 +27,13 @@ both-requires-2 : tie.Need-both-requires-2
 both-requires-2 c κs = search rules
 
 returns : tie.Need-returns
-unfolding lengthsRight places_of
+unfolding lengths_right places_of
 returns c =
     let start = c.before.before.before.before.before.before.before.before in
     joined c.both2.ensures
     (ap (λ (q : Places). eqb (length start.args.capacities.now) q.capacities) start.requires.1)
     c.before.both.ensures
 
-pub lengths-right-spec : {M : Type 1} → statement M
-lengths-right-spec =
+pub lengths_right_spec : {M : Type 1} → statement M
+lengths_right_spec =
     tie.close (tie.spec cast-second cast-third mul-third both-requires both-requires-2 returns)

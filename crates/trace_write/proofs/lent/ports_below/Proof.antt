@@ -10,7 +10,7 @@ use lib.ListN.{get_or}
 use lib.Dec.{ltb}
 use borrow.Author.Tests.{lt-ltb, le-ltb}
 use Rattle.base.specs.Below.{all_below}
-use Rattle.base.proofs.Below.{all_none, all_more, all-fails, all_done}
+use Rattle.base.proofs.Below.{all_none, all_more, all_fails, all_done}
 use Rattle.trace_write.proofs.lent.ports_below.Statement.{statement}
 use Rattle.trace_write.proofs.lent.ports_below.Tie as tie
 
@@ -34,7 +34,7 @@ returns : tie.Need-returns invariant-loop decreases-loop
 returns c = let a = c.before.before.before.before.before.args in
     let k = c.before.before.before.loop.b in
     sym
-    (all-fails (good a.table.now a.n) a.count k (omega arith) (le-ltb (get_or a.table.now k 0) a.n (omega arith)))
+    (all_fails (good a.table.now a.n) a.count k (omega arith) (le-ltb (get_or a.table.now k 0) a.n (omega arith)))
 
 add-b : tie.Need-overflow-add-b invariant-loop decreases-loop
 add-b c = omega arith
@@ -53,8 +53,8 @@ returns-2 : tie.Need-returns-2 invariant-loop decreases-loop
 returns-2 c = let a = c.before.before.before.args in
     sym (all_done (good a.table.now a.n) a.count c.before.loop.b (omega arith) (omega arith) c.before.loop.invariant.1)
 
-pub ports-below-spec : {M : Type 1} → statement M
-ports-below-spec =
+pub ports_below_spec : {M : Type 1} → statement M
+ports_below_spec =
     tie.close
     (tie.spec
     invariant-loop

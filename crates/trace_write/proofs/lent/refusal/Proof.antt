@@ -1,7 +1,7 @@
 -- `trace_write::lent::refusal` meets its contract.
 -- Assumes nothing.
 use borrow.Author.Rules.{rules}
-use Rattle.trace_write.proofs.WritingLaws.{body-chained}
+use Rattle.trace_write.proofs.WritingLaws.{body_chained}
 use Rattle.trace_write.proofs.lent.refusal.Statement.{statement}
 use Rattle.trace_write.proofs.lent.refusal.Tie as tie
 
@@ -28,7 +28,7 @@ returns c =
     let start = c.before.before.before.before.before.before.before.before.before.before in
     let a = start.args in
     let judged = c.before.before.before.before in
-    body-chained a.header a.capacities.now a.counts.now a.ports.now a.places a.room start.requires.1
+    body_chained a.header a.capacities.now a.counts.now a.ports.now a.places a.room start.requires.1
     judged.before.before.lengths-right.ensures
     judged.before.unless.ensures
     judged.tables-refusal.ensures
@@ -36,8 +36,8 @@ returns c =
     c.before.first.ensures
     c.first2.ensures
 
-pub refusal-spec : {M : Type 1} → statement M
-refusal-spec =
+pub refusal_spec : {M : Type 1} → statement M
+refusal_spec =
     tie.close
     (tie.spec
     lengths-right-requires

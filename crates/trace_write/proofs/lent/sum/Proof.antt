@@ -7,8 +7,8 @@ use Prim.Native.Nat.{ℕ, ◌+◌, ◌*◌, ◌-◌, ◌≤◌}
 use mathlib.Core.Bool.{Bool, true, false}
 use mathlib.Core.List.{List}
 use lib.ListN.{get_or}
-use Rattle.base.specs.Below.{sumBelow}
-use Rattle.base.proofs.Below.{sum-none, sum_more, sum_done}
+use Rattle.base.specs.Below.{sum_below}
+use Rattle.base.proofs.Below.{sum_none, sum_more, sum_done}
 use Rattle.trace_write.proofs.lent.sum.Statement.{statement}
 use Rattle.trace_write.proofs.lent.sum.Tie as tie
 
@@ -16,13 +16,13 @@ abbrev count : List ℕ → ℕ → ℕ
 count s t = get_or s t 0
 
 abbrev invariant-loop : tie.invariant-loop
-invariant-loop table slots end sum₀ t₀ sum t = (t ≤ end) × (sum ≡ sumBelow (count table) t) × (sum ≤ 65535 * t)
+invariant-loop table slots end sum₀ t₀ sum t = (t ≤ end) × (sum ≡ sum_below (count table) t) × (sum ≤ 65535 * t)
 
 abbrev decreases-loop : tie.decreases-loop
 decreases-loop table slots end sum₀ t₀ sum t = end - t
 
 loop-holds : tie.Need-loop-init invariant-loop decreases-loop
-loop-holds c = (search rules, sym (sum-none _), search rules)
+loop-holds c = (search rules, sym (sum_none _), search rules)
 
 entry-requires : tie.Need-entry-requires invariant-loop decreases-loop
 entry-requires c κs = search rules
@@ -48,8 +48,8 @@ returns : tie.Need-returns invariant-loop decreases-loop
 returns c = let a = c.before.before.before.args in
     sum_done (count a.table.now) a.slots c.before.loop.t _ (omega arith) (omega arith) c.before.loop.invariant.1
 
-pub sum-spec : {M : Type 1} → statement M
-sum-spec =
+pub sum_spec : {M : Type 1} → statement M
+sum_spec =
     tie.close
     (tie.spec
     invariant-loop

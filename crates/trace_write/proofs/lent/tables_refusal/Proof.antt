@@ -10,9 +10,9 @@ use Rattle.base.specs.Below.{all_below}
 use Rattle.base.proofs.Refusal.{chained, tested}
 use Rattle.layout.specs.declared.Places.{Places}
 use Rattle.layout.specs.Header.{places_of}
-use Rattle.layout.specs.Tables.{capacityAllowed, tablesRefusal, capacitiesAllowed, countsAddUp, portsBelow}
+use Rattle.layout.specs.Tables.{capacity_allowed, tables_refusal, capacities_allowed, counts_add_up, ports_below}
 use Rattle.layout.proofs.HeaderLaws.{allowed}
-use Rattle.trace_write.specs.Writing.{lentRefusal}
+use Rattle.trace_write.specs.Writing.{lent_refusal}
 use Rattle.trace_write.proofs.lent.tables_refusal.Statement.{statement}
 use Rattle.trace_write.proofs.lent.tables_refusal.Tie as tie
 
@@ -50,7 +50,7 @@ first-requires-2 : tie.Need-first-requires-2
 first-requires-2 c κs = search rules
 
 returns : tie.Need-returns
-unfolding lentRefusal tablesRefusal capacitiesAllowed countsAddUp portsBelow places_of
+unfolding lent_refusal tables_refusal capacities_allowed counts_add_up ports_below places_of
 returns c =
     let start = c.before.before.before.before.before.before.before.before.before.before.before.before.before in
     let counted = c.before.before.before.before in
@@ -58,13 +58,13 @@ returns c =
     chained c.first2.ensures
     (tested 9 allowed.unless.ensures
     (allowed.before.capacities-allowed.ensures
-    ∙ ap (λ (q : Places). all_below (λ k. capacityAllowed (get_or start.args.capacities.now k 0)) q.capacities) start.requires.1))
+    ∙ ap (λ (q : Places). all_below (λ k. capacity_allowed (get_or start.args.capacities.now k 0)) q.capacities) start.requires.1))
     (chained c.before.first.ensures
     (tested 10 counted.unless2.ensures (ap (λ (n : ℕ). eqb n start.args.header.arrivals) counted.before.sum.ensures))
-    (tested 11 c.before.before.unless3.ensures c.before.before.before.ports-below.ensures))
+    (tested 11 c.before.before.unless3.ensures c.before.before.before.ports_below_lem.ensures))
 
-pub tables-refusal-spec : {M : Type 1} → statement M
-tables-refusal-spec =
+pub tables_refusal_spec : {M : Type 1} → statement M
+tables_refusal_spec =
     tie.close
     (tie.spec
     cast-slots

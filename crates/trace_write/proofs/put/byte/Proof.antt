@@ -19,5 +19,5 @@ returns c = search rules
 returns-2 : tie.Need-returns-2
 returns-2 c = sym (set_out c.before.args.out.now c.before.args.at c.before.args.b c.if1.false)
 
-pub byte-spec : {M : Type 1} → statement M
-byte-spec = tie.close (tie.spec slice-write-out same_length returns returns-2)
+pub byte_spec : {M : Type 1} → statement M
+byte_spec = tie.close (tie.spec slice-write-out same_length returns returns-2)

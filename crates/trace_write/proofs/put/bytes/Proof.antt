@@ -48,8 +48,8 @@ returns c = let a = c.before.before.before.before.args in
     let l = c.before.loop in
     l.invariant.1 ∙ ap (λ (vs : List ℕ). sets a.out.now a.at (vs)) (take_all l.k a.table.now (omega arith))
 
-pub bytes-spec : {M : Type 1} → statement M
-bytes-spec =
+pub bytes_spec : {M : Type 1} → statement M
+bytes_spec =
     tie.close
     (tie.spec
     invariant-loop

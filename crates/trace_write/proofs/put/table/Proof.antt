@@ -59,8 +59,8 @@ returns c = let a = c.before.before.before.before.args in
     let l = c.before.loop in
     l.invariant.1 ∙ ap (λ (vs : List ℕ). sets a.out.now a.at (spell 2 vs)) (take_all l.k a.numbers.now (omega arith))
 
-pub table-spec : {M : Type 1} → statement M
-table-spec =
+pub table_spec : {M : Type 1} → statement M
+table_spec =
     tie.close
     (tie.spec
     invariant-loop

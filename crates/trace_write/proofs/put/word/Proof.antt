@@ -29,5 +29,5 @@ returns c = let a = c.before.before.before.before.before.before.before.before.be
     ∙ ap (λ (l : List ℕ). sets l (a.at + 2) (digits 2 (a.v / 256 / 256))) c.before.before.before.before.before.before.half.ensures
     ∙ sym (sets_then a.out.now a.at (digits 2 a.v) (digits 2 (a.v / 256 / 256)))
 
-pub word-spec : {M : Type 1} → statement M
-word-spec = tie.close (tie.spec half-requires add_half half-requires-2 same_length returns)
+pub word_spec : {M : Type 1} → statement M
+word_spec = tie.close (tie.spec half-requires add_half half-requires-2 same_length returns)

@@ -55,8 +55,8 @@ returns c = let a = c.before.before.before.before.args in
     let l = c.before.loop in
     l.invariant.1 ∙ ap (λ (vs : List ℕ). sets a.out.now (0) (spell 4 vs)) (take_all l.k a.numbers.now (omega arith))
 
-pub words-spec : {M : Type 1} → statement M
-words-spec =
+pub words_spec : {M : Type 1} → statement M
+words_spec =
     tie.close
     (tie.spec
     invariant-loop

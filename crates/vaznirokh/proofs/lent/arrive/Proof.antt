@@ -6,7 +6,7 @@ use Rattle.switch.specs.declared.Switch.{Switch}
 use Rattle.switch.specs.declared.Arrived.{Arrived}
 use Rattle.switch.specs.Steps.{arrive}
 use Rattle.image.specs.Image.{image_of}
-use Rattle.vaznirokh.specs.Library.{settled, takenNumber, takenWord}
+use Rattle.vaznirokh.specs.Library.{settled, taken_number, taken_word}
 use Rattle.vaznirokh.proofs.LibraryLaws.{kept, one_word}
 use Rattle.vaznirokh.proofs.lent.arrive.Statement.{statement}
 use Rattle.vaznirokh.proofs.lent.arrive.Tie as tie
@@ -27,7 +27,7 @@ returns : tie.Need-returns
 returns c =
     let start = c.before.before.before.before.before.before.before in
     let e = c.before.before.arrive.ensures ∙ ap (λ (s : Switch). arrive s start.args.input start.args.output) c.before.before.before.switch-of.ensures in
-    (c.before.taken-words.ensures.0 ∙ ap (λ (m : Arrived). takenNumber m.answer) e, (kept _ _ _ c.if1.true, kept _ _ _ c.if1.true))
+    (c.before.taken-words.ensures.0 ∙ ap (λ (m : Arrived). taken_number m.answer) e, (kept _ _ _ c.if1.true, kept _ _ _ c.if1.true))
 
 store-requires : tie.Need-store-requires
 store-requires c κs = search rules
@@ -49,15 +49,15 @@ returns-2 c =
     let read = c.before.before.before.before.before.before.before.before.switch-of.ensures in
     let e = c.before.before.before.before.before.before.before.arrive.ensures ∙ ap (λ (s : Switch). arrive s start.args.input start.args.output) read in
     let words = c.before.before.before.before.before.before.taken-words.ensures in (
-      sym c.before.before.before.before.before.if1.false ∙ words.0 ∙ ap (λ (m : Arrived). takenNumber m.answer) e,
+      sym c.before.before.before.before.before.if1.false ∙ words.0 ∙ ap (λ (m : Arrived). taken_number m.answer) e,
       (
         c.before.before.store.ensures ∙ ap (λ (m : Arrived). image_of m.switch) e,
-        one_word answer _ _ start.requires.1 (words.1 ∙ ap (λ (m : Arrived). takenWord m.answer) e),
+        one_word answer _ _ start.requires.1 (words.1 ∙ ap (λ (m : Arrived). taken_word m.answer) e),
       ),
     )
 
-pub arrive-spec : {M : Type 1} → statement M
-arrive-spec =
+pub arrive_spec : {M : Type 1} → statement M
+arrive_spec =
     tie.close
     (tie.spec
     switch-of-requires

@@ -8,8 +8,8 @@ use Rattle.switch.specs.declared.Switch.{Switch}
 use Rattle.switch.specs.declared.Drained.{Drained}
 use Rattle.switch.specs.Draining.{drain}
 use Rattle.image.specs.Image.{image_of}
-use Rattle.vaznirokh.specs.Library.{settled, drainNumber, drainWord, drainQuiet}
-use Rattle.vaznirokh.proofs.LibraryLaws.{kept, two-words}
+use Rattle.vaznirokh.specs.Library.{settled, drain_number, drain_word, drain_quiet}
+use Rattle.vaznirokh.proofs.LibraryLaws.{kept, two_words}
 use Rattle.vaznirokh.proofs.lent.drain.Statement.{statement}
 use Rattle.vaznirokh.proofs.lent.drain.Tie as tie
 
@@ -29,7 +29,7 @@ returns : tie.Need-returns
 returns c =
     let start = c.before.before.before.before.before.before.before in
     let e = c.before.before.drain.ensures ∙ ap (λ (s : Switch). drain s start.args.limit) c.before.before.before.switch-of.ensures in
-    (c.before.drain-words.ensures.0 ∙ ap (λ (m : Drained). drainNumber m.answer) e, (kept _ _ _ c.if1.true, kept _ _ _ c.if1.true))
+    (c.before.drain-words.ensures.0 ∙ ap (λ (m : Drained). drain_number m.answer) e, (kept _ _ _ c.if1.true, kept _ _ _ c.if1.true))
 
 store-requires : tie.Need-store-requires
 store-requires c κs = search rules
@@ -56,14 +56,14 @@ returns-2 c =
     let read = c.before.before.before.before.before.before.before.before.switch-of.ensures in
     let e = c.before.before.before.before.before.before.before.drain.ensures ∙ ap (λ (s : Switch). drain s start.args.limit) read in
     let words = c.before.before.before.before.before.before.drain-words.ensures in
-    let word = words.1 ∙ ap (λ (m : Drained). drainWord m.answer) e in
-    let quiet = words.2 ∙ ap (λ (m : Drained). drainQuiet m.answer) e in (
-      sym c.before.before.before.before.before.if1.false ∙ words.0 ∙ ap (λ (m : Drained). drainNumber m.answer) e,
-      (c.before.before.store.ensures ∙ ap (λ (m : Drained). image_of m.switch) e, two-words answer _ _ _ _ start.requires.1 word quiet),
+    let word = words.1 ∙ ap (λ (m : Drained). drain_word m.answer) e in
+    let quiet = words.2 ∙ ap (λ (m : Drained). drain_quiet m.answer) e in (
+      sym c.before.before.before.before.before.if1.false ∙ words.0 ∙ ap (λ (m : Drained). drain_number m.answer) e,
+      (c.before.before.store.ensures ∙ ap (λ (m : Drained). image_of m.switch) e, two_words answer _ _ _ _ start.requires.1 word quiet),
     )
 
-pub drain-spec : {M : Type 1} → statement M
-drain-spec =
+pub drain_spec : {M : Type 1} → statement M
+drain_spec =
     tie.close
     (tie.spec
     switch-of-requires

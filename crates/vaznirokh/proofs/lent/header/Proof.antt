@@ -28,8 +28,8 @@ returns c =
     header_read c.before.before.before.before.before.before.before.args.words.now _ _ _ _ _ _
     c.before.before.before.before.before.number_at.ensures c.before.before.before.before.number-at2.ensures c.before.before.before.number-at3.ensures c.before.before.number-at4.ensures c.before.number-at5.ensures c.number-at6.ensures
 
-pub header-spec : {M : Type 1} → statement M
-header-spec =
+pub header_spec : {M : Type 1} → statement M
+header_spec =
     tie.close
     (tie.spec
     number-at-requires

@@ -1,7 +1,7 @@
 -- `vaznirokh::lent::length_number` meets its contract.
 -- Assumes nothing.
 use borrow.Author.Rules.{rules}
-use Rattle.vaznirokh.specs.Library.{lengthNumber}
+use Rattle.vaznirokh.specs.Library.{length_number}
 use Rattle.vaznirokh.proofs.lent.length_number.Statement.{statement}
 use Rattle.vaznirokh.proofs.lent.length_number.Tie as tie
 
@@ -9,8 +9,8 @@ unless-requires : tie.Need-unless-requires
 unless-requires c κs = search rules
 
 returns : tie.Need-returns
-unfolding lengthNumber
+unfolding length_number
 returns c = c.unless.ensures
 
-pub length-number-spec : {M : Type 1} → statement M
-length-number-spec = tie.close (tie.spec unless-requires returns)
+pub length_number_spec : {M : Type 1} → statement M
+length_number_spec = tie.close (tie.spec unless-requires returns)

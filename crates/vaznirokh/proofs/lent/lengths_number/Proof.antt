@@ -18,6 +18,6 @@ first-requires c κs = search rules
 returns : tie.Need-returns
 returns c = c.first.ensures ∙ ap₂ ◌⨟◌ c.before.before.length-number.ensures c.before.length-number2.ensures
 
-pub lengths-number-spec : {M : Type 1} → statement M
-lengths-number-spec =
+pub lengths_number_spec : {M : Type 1} → statement M
+lengths_number_spec =
     tie.close (tie.spec length-number-requires length-number-requires-2 first-requires returns)

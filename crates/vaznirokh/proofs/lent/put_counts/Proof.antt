@@ -6,7 +6,7 @@ use Prim.Native.Nat.{◌<◌}
 use mathlib.Core.List.{[], ◌∷◌}
 use lib.ListN.{length}
 use lib.Seq.{lt-length-sets}
-use Rattle.vaznirokh.proofs.LibraryLaws.{six-words}
+use Rattle.vaznirokh.proofs.LibraryLaws.{six_words}
 use Rattle.vaznirokh.proofs.lent.put_counts.Statement.{statement}
 use Rattle.vaznirokh.proofs.lent.put_counts.Tie as tie
 
@@ -38,10 +38,10 @@ same_length : tie.Need-same-length
 same_length c = search rules
 
 returns : tie.Need-returns
-returns c = six-words c.args.words.now c.args.counts c.requires
+returns c = six_words c.args.words.now c.args.counts c.requires
 
-pub put-counts-spec : {M : Type 1} → statement M
-put-counts-spec =
+pub put_counts_spec : {M : Type 1} → statement M
+put_counts_spec =
     tie.close
     (tie.spec
     slice-write-words

@@ -3,7 +3,7 @@
 use borrow.Author.Rules.{rules}
 use mathlib.Core.Path.{sym, ap, ◌∙◌}
 use Rattle.run.specs.declared.Ran.{Ran}
-use Rattle.vaznirokh.specs.Library.{settled, countWords}
+use Rattle.vaznirokh.specs.Library.{settled, count_words}
 use Rattle.vaznirokh.proofs.LibraryLaws.{kept}
 use Rattle.vaznirokh.proofs.lent.run.Statement.{statement}
 use Rattle.vaznirokh.proofs.lent.run.Tie as tie
@@ -32,7 +32,7 @@ returns-2 : tie.Need-returns-2
 unfolding settled
 returns-2 c =
     let e = c.before.before.before.before.before.before.before.before.run.ensures in
-    (sym c.before.before.before.before.before.if1.false ∙ ap (λ (m : Ran). m.refusal) e.0, (e.1, c.before.before.put-counts.ensures ∙ ap (λ (m : Ran). countWords m.counts) e.0))
+    (sym c.before.before.before.before.before.if1.false ∙ ap (λ (m : Ran). m.refusal) e.0, (e.1, c.before.before.put-counts.ensures ∙ ap (λ (m : Ran). count_words m.counts) e.0))
 
 pub run_spec : {M : Type 1} → statement M
 run_spec =

@@ -2,7 +2,7 @@
 -- Assumes nothing.
 use borrow.Author.Rules.{rules}
 use mathlib.Core.Path.{◌∙◌}
-use Rattle.image.proofs.ImageLaws.{image-fills}
+use Rattle.image.proofs.ImageLaws.{image_fills}
 use Rattle.vaznirokh.proofs.lent.store.Statement.{statement}
 use Rattle.vaznirokh.proofs.lent.store.Tie as tie
 
@@ -16,7 +16,7 @@ returns : tie.Need-returns
 returns c =
     let a = c.before.before.before.before.before.args in
     c.before.before.put-switch.ensures
-    ∙ image-fills a.s
+    ∙ image_fills a.s
     (record { incap = search rules; outcap = search rules; crosscap = search rules; inlen = search rules; outlen = search rules; crosslen = search rules })
     a.state.now c.before.before.before.before.before.requires
 
