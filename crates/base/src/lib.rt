@@ -1,5 +1,7 @@
 // What every crate above shares: refusals as numbers, and in specs/ and proofs/ the definitions and laws of counting over the numbers
 // below n, of chains of refusals and of numbers as bytes.
+#![tactic(auto)]
+
 ghost use Rattle.std.specs.Prelude.{◌≡◌, ◌&&◌};
 ghost use Rattle.base.specs.Refusal.{unless, ◌⨟◌};
 

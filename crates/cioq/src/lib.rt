@@ -1,4 +1,6 @@
 // One cycle of the CIOQ switch, greedy matching, in place on lent queues (document 01, "One slot").
+#![tactic(auto)]
+
 ghost use Rattle.std.specs.Prelude.{◌≡◌, true, ◌<◌, ◌≤◌, min, take};
 ghost use Rattle.queues.specs.Queues.{place, has_room};
 ghost use Rattle.queues.specs.Cioq.{matching};

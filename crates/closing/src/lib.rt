@@ -1,4 +1,6 @@
 // The rest of a slot after its arrivals, in place on lent queues: all cycles, then the sendings (document 01, "One slot").
+#![tactic(auto)]
+
 ghost use Rattle.std.specs.Prelude.{◌≡◌, min, take};
 ghost use Rattle.queues.specs.declared.Queues.{Queues};
 ghost use Rattle.queues.specs.Events.{happened};

@@ -1,5 +1,7 @@
 // The two parts of a cycle of the buffered crossbar, in place on lent queues (document 01, "One slot"). A switch has at most 16 ports: more
 // are not looked at.
+#![tactic(auto)]
+
 ghost use Rattle.std.specs.Prelude.{◌≡◌, true, false, ◌||◌, [], ℕ, ◌≤◌, ◌<◌, min, length, take, get_or};
 ghost use Rattle.queues.specs.Queues.{place, waits, has_room};
 ghost use Rattle.queues.specs.Flow.{still, flowed};

@@ -1,4 +1,6 @@
 // What greedy matching keeps every rival to: three times what it has sent, and twice what stands in its output queues. That no rival beats it is proved in proofs/.
+#![tactic(auto)]
+
 ghost use Rattle.std.specs.Prelude.{◌≡◌, ◌-◌};
 ghost use Rattle.greedy_bound.specs.Answer.{limit_refusal, limit_answer, limits_of};
 
@@ -6,14 +8,14 @@ use run::Counts;
 use switch::Switch;
 
 // The most that any rival can have sent, or a refusal.
-#[derive(Drop)]
+#[derive(Clone, Copy)]
 pub enum Limited {
     AtMost(u32),
     Refused(u32),
 }
 
 // The limits of a run: at the trace's end, and once a drain has emptied the switch.
-#[derive(Drop)]
+#[derive(Clone, Copy)]
 pub struct Limits {
     pub end: u64,
     pub drained: u64,

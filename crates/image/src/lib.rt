@@ -1,4 +1,6 @@
 // A switch as 1,066 words, for callers in other languages.
+#![tactic(auto)]
+
 ghost use Rattle.std.specs.Prelude.{◌≡◌, ◌≤◌, ◌+◌, ◌++◌, length, set};
 ghost use Rattle.std.proofs.lemmas.List.Edits.{sets};
 ghost use Rattle.image.specs.Image.{words, queues_of, switch_of, queue_words, image_of};

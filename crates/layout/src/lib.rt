@@ -1,10 +1,12 @@
 // The header of a trace file (document 01, "The trace file"): what its numbers may be, and the places that they give the tables. Reader and writer share it.
+#![tactic(auto)]
+
 ghost use Rattle.std.specs.Prelude.{◌≡◌, ◌≤◌};
 ghost use Rattle.layout.specs.Header.{model_allowed, side_allowed, header_refusal, capacity_count, places_of, laid_out};
 ghost use Rattle.layout.specs.Tables.{capacity_allowed};
 
 // The header's first six words.
-#[derive(Drop)]
+#[derive(Clone, Copy)]
 pub struct Header {
     pub model: u32,
     pub order: u32,
@@ -16,7 +18,7 @@ pub struct Header {
 
 // What a header's numbers make of the file: how many capacities there are, where the slot counts and the arrivals start, and where
 // the file ends.
-#[derive(Drop)]
+#[derive(Clone, Copy)]
 pub struct Places {
     pub capacities: usize,
     pub counts: usize,
@@ -25,7 +27,7 @@ pub struct Places {
 }
 
 // The places of a header whose numbers are allowed, or the refusal of one of them, 2 to 7.
-#[derive(Drop)]
+#[derive(Clone, Copy)]
 pub enum LaidOut {
     At(Places),
     Refused(u32),

@@ -1,5 +1,7 @@
 // Reads a trace from standard input and prints what no rival can beat: what the run has sent, the limit at the trace's end, and the limit once a drain has emptied
 // the switch. A trace of model 2 is refused by 2. No accepted trace is longer than 17,480 bytes, so 17,481 of them decide.
+#![tactic(auto)]
+
 fn line(name: &[u8], n: u64) {
     io::write_all(1, name);
     io::print_decimal(1, n);

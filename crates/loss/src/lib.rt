@@ -1,4 +1,6 @@
 // Loss per thousand (document 01, "Counts and draining").
+#![tactic(auto)]
+
 ghost use Rattle.std.specs.Prelude.{◌≡◌};
 ghost use Rattle.loss.specs.Loss.{per_thousand};
 

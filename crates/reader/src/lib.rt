@@ -1,13 +1,15 @@
 // The reader (document 01): it stands on the lent trace, remembers its slot, and hands out the arrivals of one slot after another.
 // The borrow checker covers no function over a struct that holds a slice, so `new`, `next`, `onward` and `second` are proved by hand;
 // the work is done by covered functions on the trace and the slot.
+#![tactic(auto)]
+
 ghost use Rattle.std.specs.Prelude.{◌≡◌};
 ghost use Rattle.trace.specs.Slots.{standing};
 ghost use Rattle.reader.specs.Requests.{slot_after, Answered};
 
 use trace::Standing;
 
-#[derive(Drop)]
+#[derive(Clone, Copy)]
 pub struct Reader<'a> {
     pub trace: &'a [u8],
     pub slot: usize,
@@ -15,7 +17,7 @@ pub struct Reader<'a> {
 
 // What a request is answered with: the bytes of the slot's arrivals, none where none stand there; the trace and the slot to go on
 // from; and what stood at the slot. (An enum cannot hold a slice, so the answer's kind stands beside it.)
-#[derive(Drop)]
+#[derive(Clone, Copy)]
 pub struct Handed<'a> {
     pub part: &'a [u8],
     pub trace: &'a [u8],

@@ -1,4 +1,6 @@
 // A trace's refusal for a person: its number with the words of document 01's table, as a line on a lent page.
+#![tactic(auto)]
+
 ghost use Rattle.std.specs.Prelude.{◌≡◌, ◌≤◌};
 ghost use Rattle.text.specs.Text.{Written};
 ghost use Rattle.refusal_text.specs.Refusals.{words, refusal_line};

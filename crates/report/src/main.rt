@@ -1,5 +1,7 @@
 // Reads a trace from standard input and prints the report on it (document 01, "Bench cases"). No accepted trace is longer than 17,480 bytes, so 17,481 of them decide
 // (trace/proofs/LongLaws).
+#![tactic(auto)]
+
 mod report; // report.rt: the text
 
 use trace::Verdict;

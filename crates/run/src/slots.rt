@@ -16,7 +16,7 @@ use queues::Queues;
 use switch::Switch;
 
 // The queues at the end of a trace, how many arrivals were dropped, and how many words of the log are filled.
-#[derive(Drop)]
+#[derive(Clone, Copy)]
 pub struct Ended {
     pub queues: Queues,
     pub dropped: u32,

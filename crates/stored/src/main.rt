@@ -1,5 +1,7 @@
 // Runs stored traces and holds each answer to the one that the second program gave (second/README.md has the file's form): the refusal, the counts,
 // the quiet slots of a drain, and the whole lent log. Prints how many traces there were and how many differ.
+#![tactic(auto)]
+
 ghost use Rattle.std.specs.Prelude.{◌≤◌, ◌<◌, length};
 
 use run::Counts;
@@ -101,7 +103,7 @@ fn line(name: &[u8], n: u32) {
     io::write_all(1, b"\n");
 }
 
-#[derive(Drop)]
+#[derive(Clone, Copy)]
 struct Tally {
     traces: u32,
     differ: u32,

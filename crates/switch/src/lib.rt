@@ -1,4 +1,6 @@
 // The switch value (document 01, "One slot", "Counts and draining", refusal 13): a new switch, one arrival, closing a slot, draining.
+#![tactic(auto)]
+
 mod judge; // judge.rt: which switch values are allowed, refusal 13
 mod make; // make.rt: the capacities of a new switch, out of a trace
 
@@ -18,7 +20,7 @@ ghost use Rattle.switch.specs.Making.{made};
 use queues::Queues;
 
 // A switch: the header's numbers, the slot number, the counts, and the queues.
-#[derive(Drop)]
+#[derive(Clone, Copy)]
 pub struct Switch {
     pub model: u32,
     pub order: u32,
@@ -34,48 +36,48 @@ pub struct Switch {
 }
 
 // A new switch, or the trace's refusal and a switch with every number 0.
-#[derive(Drop)]
+#[derive(Clone, Copy)]
 pub struct Made {
     pub refusal: u32,
     pub switch: Switch,
 }
 
 // What became of an arrival, or its refusal.
-#[derive(Drop)]
+#[derive(Clone, Copy)]
 pub enum Taken {
     Accepted,
     Dropped,
     Refused(u32),
 }
 
-#[derive(Drop)]
+#[derive(Clone, Copy)]
 pub struct Arrived {
     pub answer: Taken,
     pub switch: Switch,
 }
 
-#[derive(Drop)]
+#[derive(Clone, Copy)]
 pub struct Closed {
     pub refusal: u32,
     pub switch: Switch,
 }
 
 // How a drain ended: empty after so many quiet slots, not empty after the limit, or refused.
-#[derive(Drop)]
+#[derive(Clone, Copy)]
 pub enum Drain {
     Empty(u32),
     NotEmpty(u32),
     Refused(u32),
 }
 
-#[derive(Drop)]
+#[derive(Clone, Copy)]
 pub struct Drained {
     pub answer: Drain,
     pub switch: Switch,
 }
 
 // What the three kinds of queues hold.
-#[derive(Drop)]
+#[derive(Clone, Copy)]
 pub struct Packets {
     pub inputs: u64,
     pub outputs: u64,

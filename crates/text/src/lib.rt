@@ -1,4 +1,6 @@
 // Lines of text on a lent page. Each function puts its text from a place on, as far as the page has room, and answers the next place.
+#![tactic(auto)]
+
 ghost use Rattle.std.specs.Prelude.{[], ◌∷◌};
 ghost use Rattle.text.specs.Text.{Written, decimal, hex, line};
 

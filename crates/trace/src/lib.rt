@@ -1,4 +1,6 @@
 // The trace file (document 01, "The trace file"): the verdict on any slice of bytes, and questions about what it holds.
+#![tactic(auto)]
+
 mod numbers; // numbers.rt: 8, 16 and 32 bits out of a slice of bytes
 mod tables; // tables.rt: what the three tables may hold
 
@@ -11,21 +13,21 @@ ghost use Rattle.trace.specs.Slots.{arrival_of, part_from, slot_part, standing};
 use layout::{Header, LaidOut, Places};
 
 // What examining a trace finds: the header's numbers of an accepted one, or the first refusal's number, 1 to 11.
-#[derive(Drop)]
+#[derive(Clone, Copy)]
 pub enum Verdict {
     Accepted(Header),
     Refused(u32),
 }
 
 // One arrival's ports.
-#[derive(Drop)]
+#[derive(Clone, Copy)]
 pub struct Ports {
     pub input: u8,
     pub output: u8,
 }
 
 // What stands at a slot of a trace: arrivals to hand out, no more slots, or a bad trace's refusal.
-#[derive(Drop)]
+#[derive(Clone, Copy)]
 pub enum Standing {
     Arrivals,
     NoMore,

@@ -1,6 +1,8 @@
 // The edges of the trace file (document 01, "The trace file", "Refusal numbers" and "Bench cases"), each on a line: what was done, and
 // the number that it is refused with, 0 where it is accepted. `ports-17 4` is C1 with 17 for its ports, which is refused with 4. What
 // the lines have to say stands in the file `stdout`, written by hand from document 01.
+#![tactic(auto)]
+
 ghost use Rattle.std.specs.Prelude.{◌≤◌};
 
 use layout::{Header, LaidOut};
@@ -143,7 +145,7 @@ fn capacity_count(h: Header) -> usize {
 }
 
 // A trace: its header's numbers, and what each capacity, each count and each port is. Its tables are as long as the header makes them.
-#[derive(Drop)]
+#[derive(Clone, Copy)]
 struct Sample {
     header: Header,
     capacity: u16,

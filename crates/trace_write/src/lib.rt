@@ -1,4 +1,6 @@
 // Writing a trace file (document 01, "The trace file") into a lent buffer.
+#![tactic(auto)]
+
 mod put; // put.rt: bytes, 16 and 32 bits and whole tables into a slice
 mod lent; // lent.rt: what the lent tables may hold
 
@@ -10,7 +12,7 @@ ghost use Rattle.trace_write.specs.Writing.{lengths_right, file, written, writte
 use layout::{Header, LaidOut, Places};
 
 // What writing answers: the total that was filled, or the first refusal's number.
-#[derive(Drop)]
+#[derive(Clone, Copy)]
 pub enum Written {
     Filled(usize),
     Refused(u32),

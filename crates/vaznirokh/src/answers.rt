@@ -26,7 +26,7 @@ pub(crate) fn written_number(w: Written) -> u32
 }
 
 // An arrival's answer: its refusal, or 0 and then 1 for accepted and 2 for dropped.
-#[derive(Drop)]
+#[derive(Clone, Copy)]
 pub(crate) struct TakenWords {
     pub number: u32,
     pub word: u32,
@@ -43,7 +43,7 @@ pub(crate) fn taken_words(t: Taken) -> TakenWords
 }
 
 // A drain's answer: its refusal, or 0 and then 1 for empty and 0 for not, and the count of quiet slots.
-#[derive(Drop)]
+#[derive(Clone, Copy)]
 pub(crate) struct DrainWords {
     pub number: u32,
     pub word: u32,

@@ -1,6 +1,8 @@
 // The static library: the bench model for programs in other languages, on numbers and lent runs of them (include/vaznirokh.h). Each
 // function answers 0 or a refusal's number; a lent run of the wrong length gets 30, before anything else, and after a refusal nothing that
 // was lent is changed.
+#![tactic(auto)]
+
 mod answers; // answers.rt: answers as numbers
 mod lent; // lent.rt: the work on lent runs that have their lengths
 
