@@ -8,12 +8,12 @@ use Rattle.trace.proofs.stands.Goals as goal
 
 pub returns-in-Refused : goal.returns-in-Refused
 unfolding standing standing_in
-returns-in-Refused c = rw (sym c.examine.ensures ∙ c.n-1.given.1)
+returns-in-Refused c = rw (sym c.examine.ensures ∙ c.in-Refused.is)
 
 pub returns-then-t-header : goal.returns-then-t-header
 unfolding standing standing_in
-returns-then-t-header c = rw (sym c.examine.ensures ∙ c.header-1.given.1, lt-ltb _ _ c.if-t-header.true)
+returns-then-t-header c = rw (sym c.examine.ensures ∙ c.in-Accepted.is, lt-ltb _ _ c.if-t-header.true)
 
 pub returns-else-t-header : goal.returns-else-t-header
 unfolding standing standing_in
-returns-else-t-header c = rw (sym c.examine.ensures ∙ c.header-1.given.1, le-ltb _ _ c.if-t-header.false)
+returns-else-t-header c = rw (sym c.examine.ensures ∙ c.in-Accepted.is, le-ltb _ _ c.if-t-header.false)

@@ -10,9 +10,9 @@ returns c =
     λ i.
     record {
       model = c.word.ensures i;
-      c = c.word-2.ensures i;
+      order = c.word-2.ensures i;
       ports = c.word-3.ensures i;
-      c = c.word-4.ensures i;
+      speedup = c.word-4.ensures i;
       slots = c.word-5.ensures i;
       arrivals = c.word-6.ensures i;
     }

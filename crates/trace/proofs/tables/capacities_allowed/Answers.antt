@@ -21,14 +21,14 @@ returns-then-not-capacity_allowed c = let a = c.args in
     let k = c.loop-k.k in
     sym
     (all_fails (good a.trace.now a.at) a.count k (omega arith)
-    (ap capacity_allowed (sym c.entry.ensures.0) ∙ sym c.capacity_allowed.ensures ∙ not-true _ c.if-not-capacity_allowed.true))
+    (ap capacity_allowed (sym c.entry.ensures.0) ∙ sym c.capacity_allowed.ensures ∙ c.if-not-capacity_allowed.true))
 
 pub loop-k-preserved : goal.loop-k-preserved
 loop-k-preserved c = let a = c.args in
     let k = c.loop-k.k in (
       omega arith,
       all_more (good a.trace.now a.at) k c.loop-k.invariant.1
-          (ap capacity_allowed (sym c.entry.ensures.0) ∙ sym c.capacity_allowed.ensures ∙ not-false _ c.if-not-capacity_allowed.false),
+          (ap capacity_allowed (sym c.entry.ensures.0) ∙ sym c.capacity_allowed.ensures ∙ c.if-not-capacity_allowed.false),
     )
 
 pub returns : goal.returns
