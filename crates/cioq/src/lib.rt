@@ -85,8 +85,8 @@ fn cross(
     log: &mut [u32],
     went: Went,
 ) -> Went
-    requires j_bound { j < 16 }
-    requires j_value { has_room outcap.now outlen.old j ≡ true }
+    requires in_range { j < 16 }
+    requires room { has_room outcap.now outlen.old j ≡ true }
     ensures { Visited true slot cycle i j inlen.old outlen.old taken.old log.old went inlen.new outlen.new taken.new log.new result }
 {
     queues::leave(inlen, place(i, j));
