@@ -1,0 +1,18 @@
+-- `closing::send` meets its contract.
+-- Assumes nothing.
+use mathlib.Core.Path.{sym, ◌∙◌}
+use borrow.Author.Tests.{not-true, not-false}
+use Rattle.queues.specs.Events.{sent_at}
+use Rattle.closing.proofs.ClosingLaws.{sends_none, sends_one_lem}
+use borrow.Author.Rules.{rules}
+use Rattle.closing.proofs.send.Goals as goal
+
+pub returns-then-not-some : goal.returns-then-not-some
+returns-then-not-some c = let a = c.args in
+    sends_none a.outlen.now a.slot a.j a.log.now a.at (sym c.waits-some.ensures ∙ c.if-not-some.true)
+
+pub returns : goal.returns
+unfolding sent_at
+returns c = let a = c.args in
+    sends_one_lem a.outlen.now a.slot a.j a.log.now a.at (sym c.waits-some.ensures ∙ c.if-not-some.false)
+    c.leave.ensures c.word-w.ensures c.emit.ensures.0 c.emit.ensures.1
