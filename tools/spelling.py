@@ -84,7 +84,9 @@ def main(argv):
     changed = 0
     for path in files(root):
         text = open(path, encoding="utf-8").read()
-        new = TOKEN.sub(lambda m: turn.get(m[0], m[0]), text)
+        # functions of src/ keep their names
+        here = {n: t for n, t in turn.items() if not (path.endswith(".rt") and n in LEMMAS)}
+        new = TOKEN.sub(lambda m: here.get(m[0], m[0]), text)
         if new != text:
             changed += 1
             open(path, "w", encoding="utf-8").write(new)

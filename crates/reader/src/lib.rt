@@ -1,6 +1,4 @@
 // The reader (document 01): it stands on the lent trace, remembers its slot, and hands out the arrivals of one slot after another.
-// The borrow checker covers no function over a struct that holds a slice, so `new`, `next`, `onward` and `second` are proved by hand;
-// the work is done by covered functions on the trace and the slot.
 #![tactic(auto)]
 
 ghost use Rattle.std.specs.Prelude.{◌≡◌};
@@ -70,7 +68,7 @@ pub fn onward<'a>(h: Handed<'a>) -> Reader<'a>
     }
 }
 
-// What the second request to a new reader finds. Its contract says nothing of a reader, so whoever calls it needs no walk by hand.
+// What the second request to a new reader finds.
 pub fn second(trace: &[u8]) -> Standing
     ensures { result ≡ standing trace.now (slot_after trace.now 0) }
 {

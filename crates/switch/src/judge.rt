@@ -7,7 +7,7 @@ use crate::{Packets, Switch};
 use queues::Queues;
 
 // Whether N ports use place k of those for pairs.
-pub(crate) fn used_pair_lem(ports: u32, k: usize) -> bool
+pub(crate) fn used_pair(ports: u32, k: usize) -> bool
     ensures { result ≡ used_pair ports k }
 {
     base::both(k / 16 < ports as usize, k % 16 < ports as usize)
@@ -28,7 +28,7 @@ fn pairs_allowed(kind: bool, ports: u32, cap: &[u32; 256], len: &[u32; 256]) -> 
 {
     let mut k: usize = 0;
     while k < 256 {
-        if !queue_allowed(base::both(kind, used_pair_lem(ports, k)), cap[k], len[k]) {
+        if !queue_allowed(base::both(kind, used_pair(ports, k)), cap[k], len[k]) {
             return false;
         }
         k += 1;

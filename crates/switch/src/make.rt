@@ -14,7 +14,7 @@ fn pair_capacity(trace: &[u8], ports: u32, from: usize, k: usize) -> u32
     requires { (ports ≤ 16) × (from ≤ 4096) × (k ≤ 256) }
     ensures { result ≡ cond (used_pair ports k) (capacity_of_pair trace.now ports from k) 0 }
 {
-    if crate::judge::used_pair_lem(ports, k) {
+    if crate::judge::used_pair(ports, k) {
         return trace::capacity(trace, from + (k / 16 * (ports as usize) + k % 16));
     }
     0

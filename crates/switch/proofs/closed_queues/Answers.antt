@@ -1,0 +1,21 @@
+-- `switch::closed_queues` meets its contract.
+-- Assumes nothing.
+use borrow.Author.Rules.{rules}
+use native.Mathlib.Omega.{arith}
+use mathlib.Core.Path.{◌≡◌, refl, sym, ◌∙◌, ap, ap₂}
+use Rattle.layout.specs.Header.{has_crosspoints}
+use Rattle.queues.specs.Turn.{turn}
+use Rattle.queues.specs.Slot.{Done, closing}
+use Rattle.queues.specs.Lent.{Held}
+use Rattle.slot_laws.proofs.Balance.{Sized}
+use Rattle.switch.proofs.SettlingLaws.{same_closing, closed_as}
+use Rattle.switch.proofs.closed_queues.Goals as goal
+
+pub returns : goal.returns
+unfolding has_crosspoints
+returns c = let a = c.args in
+    let z : Sized a.q = record { incap = search rules; outcap = search rules; crosscap = search rules; inlen = search rules; outlen = search rules; crosslen = search rules } in
+    let l = c.close.ensures a.q (record { of_outcap = refl; of_crosscap = refl; of_inlen = refl; of_outlen = refl; of_crosslen = refl }) in
+    let e = same_closing (has_crosspoints a.model) a.q a.order a.ports a.speedup a.slot _ c.requires c.turn-turn.ensures in
+    closed_as (has_crosspoints a.model) a.q a.ports (turn a.order a.ports a.slot) a.speedup a.slot _ _ _ z c.requires
+    (l.of_inlen ∙ ap (λ (d : Done). d.queues.inlen) e) (l.of_outlen ∙ ap (λ (d : Done). d.queues.outlen) e) (l.of_crosslen ∙ ap (λ (d : Done). d.queues.crosslen) e)
