@@ -1,0 +1,17 @@
+-- `image::pairs` meets its contract. The invariant: each place passed is as it should be.
+-- Assumes nothing.
+use borrow.Author.Rules.{rules}
+use native.Mathlib.Omega.{arith}
+use mathlib.Core.Path.{◌≡◌, refl}
+use Prim.Native.Nat.{ℕ, ◌+◌, ◌-◌, ◌≤◌, ◌<◌}
+use native.Mathlib.Nat.{not-suc-le-zero}
+use lib.ListN.{length, get_or}
+use Rattle.base.proofs.Listed.{fill_more, fill_done}
+use Rattle.image.specs.Image.{words}
+use Rattle.image.proofs.pairs.Given as goal
+
+abbrev pub invariant-loop-k : goal.invariant-loop-k
+invariant-loop-k l = (l.k ≤ 256) × (length l.places ≡ 256) × ((m : ℕ) → m < l.k → get_or l.places m 0 ≡ get_or l.state (l.from + m) 0)
+
+abbrev pub decreases-loop-k : goal.decreases-loop-k
+decreases-loop-k l = 256 - l.k
