@@ -6,11 +6,11 @@ use native.Mathlib.Nat.{add-zero}
 use native.Mathlib.Numerals.{add-one}
 use Rattle.base.proofs.Order.{le_or_lt}
 use native.Mathlib.Omega.{arith}
-use mathlib.Core.Path.{◌≡◌, refl, sym, ap, ◌∙◌}
+use mathlib.Core.Path.{◌≡◌, sym, ap, ◌∙◌}
 use mathlib.Core.Logic.{⊎_elim}
-use mathlib.Core.List.{List, [], ◌∷◌, ◌++◌}
+use mathlib.Core.List.{List, ◌∷◌, ◌++◌}
 use lib.ListN.{length, get_or, take, drop, length-drop, take-append-drop, drop_of_length-le, get_or-eq_default}
-use lib.Seq.{take_all, take-nil, get_or-drop, drop-drop}
+use lib.Seq.{take_all, get_or-drop, drop-drop}
 
 -- whoever takes a whole list takes the same
 take_whole : (l : List ℕ) (a b : ℕ) → length l ≤ a → length l ≤ b → take a l ≡ take b l

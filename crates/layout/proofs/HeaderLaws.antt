@@ -7,7 +7,6 @@ use mathlib.Core.Bool.{Bool, true, false, cond}
 use native.Mathlib.Omega.{arith}
 use lib.Dec.{leb}
 use borrow.Author.Tests.{leb-true}
-use Rattle.base.specs.Refusal.{unless, ◌⨟◌}
 use Rattle.base.proofs.Refusal.{unless_zero, chain_zero}
 use Rattle.base.proofs.Below.{both_true}
 use Rattle.layout.specs.declared.Header.{Header}

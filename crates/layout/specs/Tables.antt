@@ -1,7 +1,7 @@
 -- What the three tables may hold (document 01, refusals 9 to 11), whoever hands them in: the reader out of the trace, the writer out
 -- of the lent tables. `cap k` is capacity k, `count t` the arrivals of slot t, and `port b` byte b of the arrivals' table: of arrival a
 -- the input port is byte 2 × a, and the output port the one after it.
-use Rattle.std.specs.Prelude.{ℕ, ◌+◌, ◌*◌, Bool, ◌&&◌, leb, ltb, eqb}
+use Rattle.std.specs.Prelude.{ℕ, ◌*◌, Bool, ◌&&◌, leb, ltb, eqb}
 use Rattle.base.specs.Below.{all_below, sum_below}
 use Rattle.base.specs.Refusal.{unless, ◌⨟◌}
 use Rattle.layout.specs.declared.Header.{Header}

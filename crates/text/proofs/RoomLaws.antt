@@ -14,7 +14,6 @@ use borrow.Author.Tests.{lt-ltb, ltb-true, leb-true}
 use Rattle.base.proofs.Below.{both_true}
 use Rattle.base.proofs.Lowest.{lowest_bound, lowest_first}
 use Rattle.io.specs.Digits.{hex_digit_ascii, last_digits}
-use Rattle.queues.specs.Log.{logged, onward}
 use Rattle.queues.proofs.LogLaws.{Fit, none, more, logged_whole, onward_within}
 use Rattle.text.specs.Text.{Written, ascii, places, decimal, hex, line}
 

@@ -5,12 +5,12 @@ use Prim.Native.Nat.{ℕ, zero, suc, ◌+◌, ◌*◌, ◌≤◌, ◌<◌}
 use native.Mathlib.Omega.{arith}
 use mathlib.Core.Path.{◌≡◌, refl, sym, ap, ap₂, ◌∙◌}
 use mathlib.Core.Logic.{⊎_elim, ◌≢◌}
-use mathlib.Core.Bool.{Bool, true, false}
+use mathlib.Core.Bool.{true, false}
 use mathlib.Core.List.{List}
 use lib.ListN.{length, take}
 use lib.Seq.{get_or-take, length-take-le}
 use borrow.Author.Tests.{le-leb}
-use Rattle.base.specs.Digits.{byte, number}
+use Rattle.base.specs.Digits.{number}
 use Rattle.base.specs.Refusal.{◌⨟◌}
 use Rattle.base.proofs.Cases.{true_or_false, same_or_not}
 use Rattle.base.proofs.Refusal.{stops, goes_on, passed, failed}

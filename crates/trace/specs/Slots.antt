@@ -1,6 +1,6 @@
 -- One slot's arrivals and the part of the trace that holds them (document 01: the reader "hands out the arrivals of one slot after
 -- another").
-use Rattle.std.specs.Prelude.{ℕ, ◌+◌, ◌*◌, Bool, true, false, cond, List, [], take, drop, ltb}
+use Rattle.std.specs.Prelude.{ℕ, ◌+◌, ◌*◌, cond, List, [], take, drop, ltb}
 use Rattle.base.specs.Below.{sum_below}
 use Rattle.trace.specs.declared.Ports.{Ports}
 use Rattle.trace.specs.declared.Standing.{Standing}

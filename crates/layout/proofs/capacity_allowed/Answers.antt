@@ -1,6 +1,5 @@
 -- `layout::capacity_allowed` meets its contract.
 -- Assumes nothing.
-use borrow.Author.Rules.{rules}
 use Rattle.layout.specs.Tables.{capacity_allowed}
 use Rattle.layout.proofs.capacity_allowed.Goals as goal
 

@@ -1,6 +1,5 @@
 -- `layout::capacity_count` meets its contract: 16 ports make at most 528 capacities.
 -- Assumes nothing.
-use borrow.Author.Rules.{rules}
 use native.Mathlib.Omega.{arith}
 use borrow.Author.Tests.{eq-eqb, ne_eqb}
 use Rattle.layout.specs.Header.{capacity_count, has_crosspoints}

@@ -1,6 +1,5 @@
 -- `layout::header_refusal` meets its contract: each test is the definition's.
 -- Assumes nothing.
-use borrow.Author.Rules.{rules}
 use Rattle.base.proofs.Refusal.{chained, tested}
 use Rattle.layout.specs.Header.{header_refusal, order_allowed, count_allowed}
 use Rattle.layout.proofs.header_refusal.Goals as goal

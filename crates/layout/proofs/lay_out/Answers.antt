@@ -1,7 +1,6 @@
 -- `layout::lay_out` meets its contract.
 -- Assumes nothing.
-use borrow.Author.Rules.{rules}
-use mathlib.Core.Path.{sym, ap, ◌∙◌}
+use mathlib.Core.Path.{sym, ap}
 use Rattle.layout.specs.declared.LaidOut.TheVariants.{At}
 use Rattle.layout.specs.Header.{laid_out, laid_out_of}
 use Rattle.layout.proofs.HeaderLaws.{laid_refused}

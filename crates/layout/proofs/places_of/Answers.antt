@@ -1,6 +1,5 @@
 -- `layout::places_of` meets its contract.
 -- Assumes nothing.
-use borrow.Author.Rules.{rules}
 use Prim.Native.Nat.{ℕ, ◌+◌, ◌*◌}
 use mathlib.Core.Path.{ap}
 use Rattle.layout.specs.Header.{places_of, slot_counts_at, arrivals_at, total_of}

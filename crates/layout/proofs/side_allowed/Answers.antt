@@ -1,6 +1,5 @@
 -- `layout::side_allowed` meets its contract.
 -- Assumes nothing.
-use borrow.Author.Rules.{rules}
 use Rattle.layout.specs.Header.{side_allowed}
 use Rattle.layout.proofs.side_allowed.Goals as goal
 

@@ -1,8 +1,6 @@
 -- `loss::per_thousand` meets its contract.
 -- Assumes nothing.
-use borrow.Author.Rules.{rules}
-use native.Mathlib.Omega.{arith}
-use mathlib.Core.Path.{◌≡◌, refl, sym}
+use mathlib.Core.Path.{sym}
 use Rattle.loss.proofs.LossLaws.{nothing_arrived, something_arrived}
 use Rattle.loss.proofs.per_thousand.Goals as goal
 

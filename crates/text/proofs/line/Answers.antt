@@ -1,6 +1,5 @@
 -- `text::line` meets its contract.
 -- Assumes nothing.
-use borrow.Author.Rules.{rules}
 use Rattle.text.specs.Text.{ascii, line}
 use Rattle.text.proofs.WrittenLaws.{then}
 use Rattle.text.proofs.line.Goals as goal

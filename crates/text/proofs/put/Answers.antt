@@ -1,8 +1,4 @@
-use borrow.Author.Rules.{rules}
 use native.Mathlib.Omega.{arith}
-use Prim.Native.Nat.{◌≤◌, ◌-◌}
-use lib.ListN.{length, take}
-use Rattle.text.specs.Text.{Written}
 use Rattle.text.proofs.WrittenLaws.{nothing, one_more, all_of, page_length}
 use Rattle.text.proofs.put.Goals as goal
 

@@ -1,11 +1,8 @@
 -- `text::put` meets its contract. The invariant: the bytes passed stand on the page.
 -- Assumes nothing.
-use borrow.Author.Rules.{rules}
-use native.Mathlib.Omega.{arith}
 use Prim.Native.Nat.{◌≤◌, ◌-◌}
 use lib.ListN.{length, take}
 use Rattle.text.specs.Text.{Written}
-use Rattle.text.proofs.WrittenLaws.{nothing, one_more, all_of, page_length}
 use Rattle.text.proofs.put.Given as goal
 
 abbrev pub invariant-loop-k : goal.invariant-loop-k

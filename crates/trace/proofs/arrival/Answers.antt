@@ -1,9 +1,7 @@
 -- `trace::arrival` meets its contract.
 -- Assumes nothing.
-use borrow.Author.Rules.{rules}
 use Rattle.trace.specs.Slots.{arrival_of}
-use mathlib.Core.Path.{◌≡◌, refl, sym, ◌∙◌, ap}
-use native.Mathlib.Omega.{arith}
+use mathlib.Core.Path.{◌≡◌, sym, ◌∙◌, ap}
 use Prim.Native.Nat.{ℕ, ◌*◌, ◌+◌, min}
 use native.Mathlib.Nat.{add-zero, add_assoc}
 use Rattle.base.proofs.Lists.{get_d_kept}

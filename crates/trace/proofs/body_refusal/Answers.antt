@@ -1,10 +1,6 @@
 -- `trace::body_refusal` meets its contract.
 -- Assumes nothing.
-use borrow.Author.Rules.{rules}
-use mathlib.Core.Path.{◌≡◌, refl, sym, ◌∙◌, ap}
-use mathlib.Core.Bool.{true, false}
-use borrow.Author.Tests.{not-true, not-false}
-use Rattle.layout.specs.declared.Places.{Places}
+use mathlib.Core.Path.{sym, ◌∙◌, ap}
 use Rattle.trace.specs.Reading.{places_right, body_refusal}
 use Rattle.base.proofs.Refusal.{passed, failed}
 use Rattle.trace.proofs.body_refusal.Goals as goal

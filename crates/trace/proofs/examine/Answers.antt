@@ -1,8 +1,7 @@
 -- `trace::examine` meets its contract: at each way out the chain of refusals stands at that number.
 -- Assumes nothing.
-use borrow.Author.Rules.{rules}
 use native.Mathlib.Omega.{arith}
-use mathlib.Core.Path.{◌≡◌, refl, sym, ◌∙◌, ap}
+use mathlib.Core.Path.{sym, ◌∙◌}
 use Rattle.trace.proofs.ReadingLaws.{too_short, header_refused, body_refused, nothing_refused}
 use Rattle.layout.proofs.HeaderLaws.{laid_at}
 use Rattle.trace.proofs.examine.Goals as goal

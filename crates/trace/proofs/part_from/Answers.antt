@@ -1,8 +1,7 @@
 -- `trace::part_from` meets its contract: both ends are kept within the slice.
 -- Assumes nothing.
-use borrow.Author.Rules.{rules}
 use Rattle.trace.specs.Slots.{part_from}
-use mathlib.Core.Path.{◌≡◌, refl, sym, ◌∙◌, ap, ap₂}
+use mathlib.Core.Path.{◌≡◌, ◌∙◌, ap, ap₂}
 use Prim.Native.Nat.{ℕ, ◌+◌, ◌*◌, ◌-◌, min}
 use lib.ListN.{length, take, drop}
 use Rattle.base.proofs.Lists.{part_kept}

@@ -1,6 +1,5 @@
 -- `trace::slot_count` meets its contract.
 -- Assumes nothing.
-use borrow.Author.Rules.{rules}
 use Prim.Native.Nat.{ℕ, ◌+◌, ◌*◌}
 use mathlib.Core.Path.{ap, ◌∙◌}
 use Rattle.trace.specs.Reading.{half, slot_count}

@@ -1,12 +1,11 @@
 -- `trace::slot_part` meets its contract.
 -- Assumes nothing.
-use borrow.Author.Rules.{rules}
-use mathlib.Core.Path.{◌≡◌, refl, sym, ◌∙◌, ap}
+use mathlib.Core.Path.{sym, ◌∙◌, ap}
 use native.Mathlib.Omega.{arith}
 use Prim.Native.Nat.{ℕ, ◌+◌, ◌*◌}
 use Rattle.base.specs.Below.{sum_below}
 use Rattle.trace.specs.Reading.{half}
-use Rattle.trace.specs.Slots.{standing, slot_part, part_at}
+use Rattle.trace.specs.Slots.{slot_part, part_at}
 use Rattle.trace.proofs.SlotsLaws.{stands_below, slots_few, part_at_lem}
 use Rattle.trace.proofs.slot_part.Goals as goal
 

@@ -1,7 +1,6 @@
 -- `trace::stands` meets its contract.
 -- Assumes nothing.
-use borrow.Author.Rules.{rules}
-use mathlib.Core.Path.{◌≡◌, refl, sym, ◌∙◌, ap}
+use mathlib.Core.Path.{sym, ◌∙◌}
 use borrow.Author.Tests.{lt-ltb, le-ltb}
 use Rattle.trace.specs.Slots.{standing, standing_in}
 use Rattle.trace.proofs.stands.Goals as goal

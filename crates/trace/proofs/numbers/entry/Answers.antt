@@ -1,6 +1,5 @@
 -- `trace::numbers::entry` meets its contract: a place that is kept within the slice reads the same.
 -- Assumes nothing.
-use borrow.Author.Rules.{rules}
 use mathlib.Core.Path.{◌∙◌, ap}
 use Rattle.base.specs.Digits.{number}
 use Rattle.base.proofs.Digits.{number_kept}

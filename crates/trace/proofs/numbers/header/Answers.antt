@@ -1,6 +1,5 @@
 -- `trace::numbers::header` meets its contract.
 -- Assumes nothing.
-use borrow.Author.Rules.{rules}
 use Rattle.trace.specs.Reading.{header_of}
 use Rattle.trace.proofs.numbers.header.Goals as goal
 

@@ -1,6 +1,5 @@
 -- `trace::numbers::word` meets its contract: two halves, and 0 where both are past the end.
 -- Assumes nothing.
-use borrow.Author.Rules.{rules}
 use native.Mathlib.Omega.{arith}
 use mathlib.Core.Path.{sym}
 use Rattle.base.proofs.Digits.{number_four, number_past}

@@ -1,15 +1,8 @@
 use borrow.Author.Rules.{rules}
 use native.Mathlib.Omega.{arith}
-use mathlib.Core.Path.{◌≡◌, refl, sym, ◌∙◌, ap}
-use Prim.Native.Nat.{ℕ, ◌+◌, ◌*◌, ◌-◌, ◌≤◌}
-use mathlib.Core.Bool.{Bool, true}
-use Rattle.base.specs.Below.{all_below}
+use mathlib.Core.Path.{sym, ◌∙◌, ap}
 use Rattle.base.proofs.Below.{all_none, all_more, all_fails, all_done}
-use Rattle.trace.specs.Reading.{half}
 use Rattle.layout.specs.Tables.{capacity_allowed}
-use mathlib.Core.List.{List}
-use borrow.Author.Tests.{not-true, not-false}
-use mathlib.Core.Bool.{false}
 use Rattle.trace.proofs.tables.capacities_allowed.Invariants.{good}
 use Rattle.trace.proofs.tables.capacities_allowed.Goals as goal
 

@@ -1,17 +1,12 @@
 -- `trace::tables::capacities_allowed` meets its contract. The invariant: each capacity passed is allowed.
 -- Assumes nothing.
-use borrow.Author.Rules.{rules}
-use native.Mathlib.Omega.{arith}
-use mathlib.Core.Path.{◌≡◌, refl, sym, ◌∙◌, ap}
+use mathlib.Core.Path.{◌≡◌}
 use Prim.Native.Nat.{ℕ, ◌+◌, ◌*◌, ◌-◌, ◌≤◌}
 use mathlib.Core.Bool.{Bool, true}
 use Rattle.base.specs.Below.{all_below}
-use Rattle.base.proofs.Below.{all_none, all_more, all_fails, all_done}
 use Rattle.trace.specs.Reading.{half}
 use Rattle.layout.specs.Tables.{capacity_allowed}
 use mathlib.Core.List.{List}
-use borrow.Author.Tests.{not-true, not-false}
-use mathlib.Core.Bool.{false}
 use Rattle.trace.proofs.tables.capacities_allowed.Given as goal
 
 -- the test that each capacity has to pass

@@ -1,6 +1,5 @@
 -- `trace::tables::places_right` meets its contract.
 -- Assumes nothing.
-use borrow.Author.Rules.{rules}
 use Prim.Native.Nat.{ℕ}
 use mathlib.Core.Path.{refl, ap}
 use lib.Dec.{eqb}

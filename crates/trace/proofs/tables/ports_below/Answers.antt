@@ -1,14 +1,9 @@
 use borrow.Author.Rules.{rules}
 use native.Mathlib.Omega.{arith}
-use mathlib.Core.Path.{◌≡◌, refl, sym, ◌∙◌, ap}
-use Prim.Native.Nat.{ℕ, ◌+◌, ◌*◌, ◌-◌, ◌≤◌}
-use mathlib.Core.Bool.{Bool, true}
-use lib.Dec.{ltb}
+use mathlib.Core.Path.{sym}
+use Prim.Native.Nat.{◌+◌}
 use Rattle.base.specs.Digits.{byte}
-use Rattle.base.specs.Below.{all_below}
 use Rattle.base.proofs.Below.{all_none, all_more, all_fails, all_done}
-use mathlib.Core.List.{List}
-use mathlib.Core.Bool.{false}
 use borrow.Author.Tests.{lt-ltb, le-ltb}
 use Rattle.trace.proofs.tables.ports_below.Invariants.{good}
 use Rattle.trace.proofs.tables.ports_below.Goals as goal

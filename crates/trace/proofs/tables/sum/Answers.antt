@@ -1,11 +1,7 @@
 use borrow.Author.Rules.{rules}
 use native.Mathlib.Omega.{arith}
-use mathlib.Core.Path.{◌≡◌, refl, sym, ◌∙◌, ap}
-use Prim.Native.Nat.{ℕ, ◌+◌, ◌*◌, ◌-◌, ◌≤◌}
-use Rattle.base.specs.Below.{sum_below}
+use mathlib.Core.Path.{sym}
 use Rattle.base.proofs.Below.{sum_none, sum_more}
-use Rattle.trace.specs.Reading.{half}
-use mathlib.Core.List.{List}
 use Rattle.base.proofs.Below.{sum_done}
 use Rattle.trace.proofs.tables.sum.Invariants.{count}
 use Rattle.trace.proofs.tables.sum.Goals as goal

@@ -1,14 +1,10 @@
 -- `trace::tables::sum` meets its contract. The invariant: the sum so far, at most 65,535 for each slot passed.
 -- Assumes nothing.
-use borrow.Author.Rules.{rules}
-use native.Mathlib.Omega.{arith}
-use mathlib.Core.Path.{◌≡◌, refl, sym, ◌∙◌, ap}
+use mathlib.Core.Path.{◌≡◌}
 use Prim.Native.Nat.{ℕ, ◌+◌, ◌*◌, ◌-◌, ◌≤◌}
 use Rattle.base.specs.Below.{sum_below}
-use Rattle.base.proofs.Below.{sum_none, sum_more}
 use Rattle.trace.specs.Reading.{half}
 use mathlib.Core.List.{List}
-use Rattle.base.proofs.Below.{sum_done}
 use Rattle.trace.proofs.tables.sum.Given as goal
 
 abbrev pub count : List ℕ → ℕ → ℕ → ℕ
