@@ -1,6 +1,7 @@
 //! The proved programs `report`, `events` and `limit` against the second program: what
 //! they print for good, damaged, empty and over-long traces, handed to them at once or in
-//! small pieces. `programs FOLDER [SEED]`; its last line is `N compared, M different`.
+//! small pieces. `programs CRATES [SEED]`, where
+//! CRATES holds each program as NAME/out/NAME; its last line is `N compared, M different`.
 
 use second::random::Random;
 use second::{damage, generate, report};
@@ -19,7 +20,7 @@ const PROGRAMS: [Asked; 4] = [
 
 fn main() {
     let words: Vec<String> = std::env::args().collect();
-    let folder = words.get(1).expect("programs FOLDER [SEED]");
+    let crates = words.get(1).expect("programs CRATES [SEED]");
     let seed = words.get(2).map_or(1, |text| text.parse().expect("the seed is a number"));
     println!("programs, seed {seed}");
     let (mut compared, mut different) = (0, 0);
@@ -27,7 +28,8 @@ fn main() {
         for (name, arguments, second) in PROGRAMS {
             compared += 1;
             let expected = second(trace);
-            let printed = printed(&format!("{folder}/{name}"), arguments, trace, number % 3 == 1);
+            let program = format!("{crates}/{name}/out/{name}");
+            let printed = printed(&program, arguments, trace, number % 3 == 1);
             if printed != expected.as_bytes() {
                 different += 1;
                 println!("DIFFERENT: {name} {arguments:?}, trace {number} of {} bytes", trace.len());
