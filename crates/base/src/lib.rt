@@ -16,6 +16,7 @@ pub fn unless(ok: bool, n: u32) -> u32
 }
 
 // The first refusal, or where that is none the second.
+#[tactic(auto, using(crate::proofs::Refusal::stops, crate::proofs::Refusal::goes_on))]
 pub fn first(a: u32, b: u32) -> u32
     ensures { result ≡ (a ⨟ b) }
 {

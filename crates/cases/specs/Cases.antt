@@ -1,9 +1,8 @@
 -- The bench cases of document 01 as rows of one table: the bytes of a trace file, the words of log that are lent (each 9 before the run), a drain's limit, and what
 -- is to be found: the refusal's number, the whole lent log after the run, the counts, the loss per thousand, and how a drain at the trace's end
 -- ends. After the paper's cases stand rows that catch the "errors seen in models like this" which they let through.
-use Rattle.std.specs.Prelude.{ℕ, zero, suc, Bool, true, false, List, [], ◌∷◌, length, replicate}
+use Rattle.std.specs.Prelude.{ℕ, zero, suc, List, [], ◌∷◌, length, replicate}
 use Rattle.run.specs.declared.Counts.{Counts}
-use Rattle.run.specs.declared.Ran.{Ran}
 use Rattle.run.specs.Run.{whole, running, ran, ran_log}
 use Rattle.loss.specs.Loss.{per_thousand}
 use Rattle.switch.specs.declared.Drain.{Drain}

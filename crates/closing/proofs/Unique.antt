@@ -4,7 +4,6 @@
 use Prim.Native.Nat.{ℕ}
 use mathlib.Core.List.{List}
 use Rattle.base.proofs.Unique.{OneShown}
-use Rattle.queues.specs.declared.Queues.{Queues}
 use Rattle.queues.proofs.LeftLaws.{left_all_one, held, is_held}
 use Rattle.closing.proofs.close.Kinds as close-kinds
 use Rattle.closing.proofs.close.Reads as close

@@ -34,6 +34,7 @@ pub enum LaidOut {
 }
 
 // Whether a model is allowed: 1 CIOQ, 2 buffered crossbar.
+#[tactic(auto, unfolding(crate::specs::Header::model_allowed))]
 pub fn model_allowed(m: u32) -> bool
     ensures { result ≡ model_allowed m }
 {

@@ -2,26 +2,22 @@
 -- Assumes nothing.
 use Prim.Native.Nat.{ℕ, zero, suc, ◌+◌, ◌*◌, ◌≤◌, ◌<◌}
 use native.Mathlib.Nat.{add-zero, add_assoc}
-use native.Mathlib.Numerals.{add-one}
 use native.Mathlib.Omega.{arith}
 use mathlib.Core.Path.{◌≡◌, refl, sym, ap, ap₂, ◌∙◌}
 use mathlib.Core.Logic.{⊎_elim}
-use mathlib.Core.Bool.{Bool, true, false, cond}
 use Rattle.base.proofs.Order.{le_or_lt}
-use mathlib.Core.List.{List, [], ◌∷◌, ◌++◌, append_assoc, append-nil}
-use lib.ListN.{length, get_or, take, drop, length-take, length-drop}
+use mathlib.Core.List.{List, ◌++◌, append_assoc, append-nil}
+use lib.ListN.{length, get_or, drop, length-drop}
 use lib.Seq.{get_or-take, get_or-drop, length-take-le}
 use Rattle.base.specs.Below.{sum_below}
-use Rattle.base.specs.Digits.{byte}
 use Rattle.trace.specs.declared.Ports.{Ports}
-use Rattle.layout.specs.Header.{has_crosspoints, places_of, arrivals_at, total_of}
+use Rattle.layout.specs.Header.{has_crosspoints, places_of, total_of}
 use Rattle.trace.specs.Reading.{word, header_of, slot_count, port_byte, reading}
 use Rattle.trace.specs.Slots.{arrival_of, before, part_from}
 use Rattle.trace.proofs.ReadingLaws.{whole, right}
-use Rattle.queues.specs.declared.Queues.{Queues}
 use Rattle.queues.specs.Events.{Event, of_kind}
 use Rattle.queues.specs.Slot.{Done, begun, after, arrival}
-use Rattle.slot_laws.proofs.EventsLaws.{of_both, none_of_kind}
+use Rattle.slot_laws.proofs.EventsLaws.{of_both}
 use Rattle.switch.specs.declared.Switch.{Switch}
 use Rattle.switch.specs.Switch.{outmoved_kind, advanced}
 use Rattle.run.specs.Run.{History, grown, arriving, arrivals}

@@ -17,7 +17,7 @@ use Rattle.queues.specs.Events.{log_of, of_kind}
 use Rattle.queues.specs.Log.{logged, onward}
 use Rattle.queues.specs.Turn.{turn}
 use Rattle.queues.specs.Lent.{Held, LeftAll}
-use Rattle.queues.specs.Slot.{Done, begun, after, arrival, closing}
+use Rattle.queues.specs.Slot.{Done, begun, after, closing}
 use Rattle.slot_laws.proofs.Balance.{Sized, Kept, kept_same, kept_then, kept_sized}
 use Rattle.slot_laws.proofs.EventsLaws.{of_both}
 use Rattle.slot_laws.proofs.SlotLaws.{arrival_arrived, closing_balanced}

@@ -1,34 +1,22 @@
 -- A slot in place: the arrivals and then the closing, as both are left.
 -- Assumes nothing.
-use Prim.Native.Nat.{ℕ, zero, suc, ◌+◌, ◌*◌, ◌/◌, ◌≤◌, ◌<◌, min}
-use native.Mathlib.Nat.{zero-add, add-zero}
-use native.Mathlib.Numerals.{add-one}
-use native.Mathlib.Omega.{arith}
+use Prim.Native.Nat.{ℕ, zero, suc, ◌+◌, ◌*◌, ◌/◌, ◌≤◌, min}
 use mathlib.Core.Path.{◌≡◌, refl, sym, ap, ◌∙◌, subst}
 use mathlib.Core.Bool.{Bool, true, false}
-use mathlib.Core.List.{List, [], ◌∷◌, ◌++◌}
+use mathlib.Core.List.{List, ◌++◌}
 use lib.ListN.{length, get_or, take, length-append}
-use Rattle.layout.specs.Header.{has_crosspoints}
 use Rattle.queues.specs.declared.Queues.{Queues}
 use Rattle.queues.specs.Queues.{place, has_room, lengths}
-use Rattle.queues.specs.Events.{Event, log_of, of_kind}
+use Rattle.queues.specs.Events.{Event, log_of}
 use Rattle.queues.specs.Log.{logged, onward}
 use Rattle.queues.specs.Turn.{turn, turn_places}
 use Rattle.queues.specs.Lent.{Held, LeftAll}
 use Rattle.queues.specs.Slot.{Done, begun, after, arrival_of, arrival, closing}
 use Rattle.queues.proofs.LogLaws.{logged_then, onward_then, length_logged}
-use Rattle.slot_laws.proofs.EventsLaws.{of_both}
 use Rattle.switch.proofs.SettlingLaws.{same_closing}
-use Rattle.trace.specs.Reading.{header_of, slot_count, reading}
-use Rattle.trace.specs.Slots.{before, part_from}
-use Rattle.switch.specs.Switch.{advanced}
-use Rattle.switch.specs.Making.{unused, fresh}
-use Rattle.run.specs.Run.{History, grown, arrivals, closed, slots}
-use Rattle.run.proofs.FoldLaws.{grown_then, part_length, arrivals_takings}
-use Rattle.run.proofs.HistoryLaws.{Reached, history_allowed}
 use Rattle.run.specs.declared.Took.{Took}
 use Rattle.run.specs.Taking.{takings, slot_of, Taken}
-use Rattle.run.proofs.TakingLaws.{logs_join, length_log, takings_incap}
+use Rattle.run.proofs.TakingLaws.{logs_join, length_log}
 
 -- one thing after another in the log
 pub logs_then : (log mid kept : List ℕ) (at to : ℕ) (a b : List Event) → mid ≡ logged log at (log_of a) → to ≡ onward (length log) at (length a) → kept ≡ logged mid to (log_of b) → kept ≡ logged log at (log_of (a ++ b))

@@ -1,12 +1,12 @@
 -- A slot's arrivals one after the other: what one arrival leaves, and what the first k + 1 of a part leave once the first k have.
 -- Assumes nothing.
-use Prim.Native.Nat.{ℕ, zero, suc, ◌+◌, ◌*◌, ◌/◌, ◌≤◌, ◌<◌}
+use Prim.Native.Nat.{ℕ, zero, suc, ◌+◌, ◌*◌, ◌≤◌}
 use native.Mathlib.Numerals.{add-one}
 use native.Mathlib.Omega.{arith}
 use mathlib.Core.Path.{◌≡◌, refl, sym, ap, ◌∙◌, subst}
 use mathlib.Core.Bool.{Bool, true, false, cond}
-use mathlib.Core.List.{List, [], ◌∷◌, ◌++◌, map}
-use lib.ListN.{length, get_or, length-append, length-map}
+use mathlib.Core.List.{List, [], ◌∷◌, ◌++◌}
+use lib.ListN.{length, get_or, length-append}
 use Rattle.queues.specs.declared.Queues.{Queues}
 use Rattle.queues.specs.Queues.{place, has_room, more, lengths}
 use Rattle.queues.specs.Events.{Event, word, log_of, accepted_at, dropped_at, of_kind}

@@ -1,8 +1,8 @@
 -- What an allowed switch is known to have, by name (refusal 13, turned round).
 -- Assumes nothing.
-use Prim.Native.Nat.{ℕ, ◌+◌, ◌≤◌}
+use Prim.Native.Nat.{◌+◌, ◌≤◌}
 use mathlib.Core.Path.{◌≡◌}
-use mathlib.Core.Bool.{true, ◌&&◌}
+use mathlib.Core.Bool.{true}
 use borrow.Author.Tests.{leb-true, eqb-true}
 use Rattle.base.proofs.Below.{both_true}
 use Rattle.layout.specs.Header.{model_allowed, order_allowed}

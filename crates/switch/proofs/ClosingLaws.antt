@@ -2,14 +2,13 @@
 -- nor is held, and the other two are what was sent and is held further on. And a closing that finds a packet anywhere sends one (progress,
 -- of the slot laws), so what is held falls by at least one, until it is nothing.
 -- Assumes nothing.
-use Prim.Native.Nat.{ℕ, ◌+◌, ◌-◌, ◌≤◌, ◌<◌}
+use Prim.Native.Nat.{◌+◌, ◌-◌, ◌≤◌, ◌<◌}
 use native.Mathlib.Omega.{arith}
 use mathlib.Core.Path.{◌≡◌}
 use mathlib.Core.Logic.{⊎_elim}
 use mathlib.Core.Bool.{true}
 use Rattle.base.proofs.Order.{le_or_lt}
 use Rattle.layout.specs.Header.{has_crosspoints}
-use Rattle.queues.specs.declared.Queues.{Queues}
 use Rattle.queues.specs.Events.{of_kind}
 use Rattle.queues.specs.Turn.{turn}
 use Rattle.slot_laws.proofs.Balance.{Sized}

@@ -1,6 +1,6 @@
 -- What the code's closing leaves, put together: the queues after all cycles and sendings, and the counts found from what they hold.
 -- Assumes nothing.
-use Prim.Native.Nat.{ℕ, zero, suc, ◌+◌, ◌-◌, ◌≤◌, ◌<◌, min}
+use Prim.Native.Nat.{ℕ, zero, suc, ◌+◌, ◌≤◌, ◌<◌, min}
 use native.Mathlib.Omega.{arith}
 use mathlib.Core.Path.{◌≡◌, refl, sym, ap, ap₂, ◌∙◌}
 use mathlib.Core.Bool.{Bool, true}
@@ -8,16 +8,13 @@ use mathlib.Core.List.{List}
 use lib.ListN.{take}
 use borrow.Author.Tests.{ltb-true}
 use Rattle.base.proofs.Refusal.{unless_zero, chain_zero}
-use Rattle.layout.specs.Header.{has_crosspoints}
 use Rattle.queues.specs.declared.Queues.{Queues}
 use Rattle.queues.specs.Turn.{turn, turn_places}
-use Rattle.queues.specs.Slot.{Done, closing}
+use Rattle.queues.specs.Slot.{closing}
 use Rattle.queues.proofs.TurnPlaces.{places_in_turn}
 use Rattle.slot_laws.proofs.Balance.{Sized}
 use Rattle.slot_laws.proofs.SlotLaws.{closing_balanced}
 use Rattle.switch.specs.declared.Switch.{Switch}
-use Rattle.switch.specs.declared.Closed.{Closed}
-use Rattle.switch.specs.declared.Drained.{Drained}
 use Rattle.switch.specs.declared.Drain.TheVariants.{Refused}
 use Rattle.switch.specs.Draining.{drain_refusal, drain_answer, drain}
 use Rattle.switch.specs.Switch.{held_in, held_out, held_cross, held_all}

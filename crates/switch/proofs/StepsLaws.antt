@@ -2,23 +2,19 @@
 -- Assumes nothing.
 use Prim.Native.Nat.{ℕ, zero, suc, ◌+◌, ◌<◌}
 use native.Mathlib.Nat.{add-zero}
-use native.Mathlib.Omega.{arith}
-use mathlib.Core.Path.{◌≡◌, refl, sym, ap, ◌∙◌}
+use mathlib.Core.Path.{◌≡◌, refl}
 use mathlib.Core.Bool.{Bool, true, false}
-use mathlib.Core.List.{List, [], ◌∷◌}
-use lib.Dec.{ltb}
+use mathlib.Core.List.{[], ◌∷◌}
 use borrow.Author.Tests.{ltb-true}
 use Rattle.base.proofs.Below.{both_true}
 use Rattle.base.proofs.Refusal.{unless_zero, chain_zero}
 use Rattle.layout.specs.Header.{has_crosspoints}
 use Rattle.queues.specs.declared.Queues.{Queues}
 use Rattle.queues.specs.Queues.{place, has_room, more, lengths}
-use Rattle.queues.specs.Events.{Event, accepted_at, dropped_at, of_kind}
+use Rattle.queues.specs.Events.{accepted_at, dropped_at, of_kind}
 use Rattle.queues.specs.Slot.{arrival_of, arrival}
 use Rattle.switch.specs.declared.Switch.{Switch}
-use Rattle.switch.specs.declared.Taken.{Taken}
 use Rattle.switch.specs.declared.Taken.TheVariants.{Accepted, Dropped, Refused}
-use Rattle.switch.specs.declared.Arrived.{Arrived}
 use Rattle.switch.specs.Switch.{outmoved_kind, advanced}
 use Rattle.switch.specs.Allowed.{switch_allowed}
 use Rattle.switch.specs.Steps.{arrive_refusal, taking, arrive_step, arrive_answer, arrive}

@@ -1,7 +1,6 @@
 -- Each contract of this crate allows one answer, refusals too, as `Unique` of base says it.
 -- Assumes nothing.
 use Rattle.base.proofs.Unique.{determined, OneAnswer}
-use Rattle.switch.specs.declared.Packets.{Packets}
 use Rattle.switch.proofs.holds.Kinds as holds-kinds
 use Rattle.switch.proofs.holds.Reads as holds
 use Rattle.switch.proofs.refusal.Kinds as refusal-kinds

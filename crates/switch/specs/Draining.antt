@@ -3,7 +3,6 @@ use Rattle.std.specs.Prelude.{ℕ, zero, suc, ◌+◌, Bool, true, false, leb, e
 use Rattle.base.specs.Below.{lowest}
 use Rattle.base.specs.Refusal.{unless, ◌⨟◌}
 use Rattle.switch.specs.declared.Switch.{Switch}
-use Rattle.switch.specs.declared.Drain.{Drain}
 use Rattle.switch.specs.declared.Drain.TheVariants.{Empty, NotEmpty, Refused}
 use Rattle.switch.specs.declared.Drained.{Drained}
 use Rattle.switch.specs.Switch.{held}

@@ -2,7 +2,6 @@
 -- places start empty.
 use Rattle.std.specs.Prelude.{ℕ, zero, suc, ◌+◌, ◌*◌, ◌/◌, ◌%◌, ◌&&◌, cond, List, replicate, ltb}
 use Rattle.base.specs.Below.{list_below}
-use Rattle.layout.specs.declared.Header.{Header}
 use Rattle.layout.specs.Header.{has_crosspoints}
 use Rattle.trace.specs.Reading.{header_of, capacity, reading}
 use Rattle.queues.specs.declared.Queues.{Queues}

@@ -1,13 +1,12 @@
 -- The parts of a written file one after the other, how long it is, and the ways out of the writer's chain of refusals.
 -- Assumes nothing.
 use Prim.Native.Nat.{ℕ, zero, suc, ◌+◌, ◌*◌, ◌≤◌}
-use native.Mathlib.Nat.{zero-add}
 use native.Mathlib.Omega.{arith}
 use mathlib.Core.Path.{◌≡◌, refl, sym, ap, ◌∙◌}
-use mathlib.Core.List.{List, [], ◌∷◌, ◌++◌}
+use mathlib.Core.List.{List, ◌++◌}
 use mathlib.Core.Bool.{Bool, true, and-eq-true_iff}
-use lib.ListN.{length, drop, length-append}
-use lib.Dec.{leb, eqb}
+use lib.ListN.{length, length-append}
+use lib.Dec.{leb}
 use lib.Seq.{sets}
 use borrow.Author.Tests.{eqb-true, leb-true, eq-eqb, le-leb}
 use Rattle.base.specs.Digits.{spell}

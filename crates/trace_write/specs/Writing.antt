@@ -1,5 +1,5 @@
 -- Writing a trace (document 01, "The trace file" and "Refusal numbers") from header words and three lent tables.
-use Rattle.std.specs.Prelude.{ℕ, zero, suc, ◌+◌, ◌*◌, Bool, ◌&&◌, List, [], ◌∷◌, ◌++◌, length, get_or, drop, leb, eqb}
+use Rattle.std.specs.Prelude.{ℕ, zero, suc, ◌*◌, Bool, ◌&&◌, List, [], ◌∷◌, ◌++◌, length, get_or, drop, leb, eqb}
 use Rattle.base.specs.Digits.{spell}
 use Rattle.base.specs.Refusal.{unless, ◌⨟◌}
 use Rattle.layout.specs.declared.Header.{Header}

@@ -1,6 +1,5 @@
 -- `cioq::cross` meets its contract: each part is what the called function leaves.
 -- Assumes nothing.
-use borrow.Author.Rules.{rules}
 use mathlib.Core.Path.{refl, ap, ◌∙◌}
 use mathlib.Core.Bool.{Bool, cond}
 use Rattle.queues.specs.Queues.{more, fewer}

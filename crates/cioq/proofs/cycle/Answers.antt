@@ -1,4 +1,4 @@
-use Prim.Native.Nat.{ℕ, ◌-◌, ◌≤◌}
+use Prim.Native.Nat.{ℕ}
 use native.Mathlib.Omega.{arith}
 use mathlib.Core.Path.{◌≡◌, refl, sym, ap, ◌∙◌, subst}
 use lib.ListN.{length, take}
@@ -7,7 +7,7 @@ use borrow.Author.Rules.{rules}
 use Rattle.queues.specs.Cioq.{matching}
 use Rattle.queues.specs.Lent.{Left}
 use Rattle.cioq.proofs.LeftLaws.{left_length}
-use Rattle.cioq.proofs.CioqLaws.{Upto, first, upto_none, upto_more, upto_all, lengths_kept}
+use Rattle.cioq.proofs.CioqLaws.{upto_none, upto_more, upto_all, lengths_kept}
 use Rattle.cioq.proofs.cycle.Goals as goal
 
 pub loop-u-init : goal.loop-u-init

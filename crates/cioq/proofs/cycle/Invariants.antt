@@ -1,15 +1,8 @@
 -- `cioq::cycle` meets its contract. The invariant: the queues, the flags, the log and the answer are as the first u visits leave them.
 -- Assumes nothing.
-use Prim.Native.Nat.{ℕ, ◌-◌, ◌≤◌}
-use native.Mathlib.Omega.{arith}
-use mathlib.Core.Path.{◌≡◌, refl, sym, ap, ◌∙◌, subst}
-use lib.ListN.{length, take}
-use lib.Seq.{get_or-take, length-take-le}
-use borrow.Author.Rules.{rules}
-use Rattle.queues.specs.Cioq.{matching}
-use Rattle.queues.specs.Lent.{Left}
-use Rattle.cioq.proofs.LeftLaws.{left_length}
-use Rattle.cioq.proofs.CioqLaws.{Upto, first, upto_none, upto_more, upto_all, lengths_kept}
+use Prim.Native.Nat.{◌-◌, ◌≤◌}
+use lib.ListN.{take}
+use Rattle.cioq.proofs.CioqLaws.{Upto, first}
 use Rattle.cioq.proofs.cycle.Given as goal
 
 abbrev pub invariant-loop-u : goal.invariant-loop-u

@@ -1,7 +1,6 @@
 -- `cioq::may_take` meets its contract, test by test.
 -- Assumes nothing.
 use mathlib.Core.Path.{sym, ap, ◌∙◌}
-use borrow.Author.Rules.{rules}
 use Rattle.queues.specs.Queues.{waits}
 use Rattle.cioq.proofs.VisitLaws.{may_by_flag, may_not_full, may_not_empty}
 use Rattle.cioq.proofs.may_take.Goals as goal

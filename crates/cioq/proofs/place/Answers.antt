@@ -1,6 +1,5 @@
 -- `cioq::place` meets its contract: at most 2^36, so nothing wraps.
 -- Assumes nothing.
-use borrow.Author.Rules.{rules}
 use mathlib.Core.Path.{refl}
 use Rattle.queues.specs.Queues.{place}
 use Rattle.cioq.proofs.place.Goals as goal

@@ -1,6 +1,5 @@
 -- `cioq::visit` meets its contract: at N all stays, below it the chosen output has room and the packet moves.
 -- Assumes nothing.
-use borrow.Author.Rules.{rules}
 use native.Mathlib.Omega.{arith}
 use mathlib.Core.Path.{ap, ◌∙◌}
 use Rattle.queues.specs.Queues.{has_room}
@@ -19,8 +18,8 @@ cross-requires c = let a = c.args in
     record {
       in_range = omega arith;
       room =
-        ap (has_room a.outcap.now a.outlen.now) p.ensures
-        ∙ chosen_room a.n a.outcap.now a.inlen.now a.outlen.now a.taken.now a.i (omega arith);
+          ap (has_room a.outcap.now a.outlen.now) p.ensures
+          ∙ chosen_room a.n a.outcap.now a.inlen.now a.outlen.now a.taken.now a.i (omega arith);
     }
 
 pub returns : goal.returns

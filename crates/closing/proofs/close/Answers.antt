@@ -3,7 +3,6 @@
 use Prim.Native.Nat.{min}
 use lib.ListN.{take}
 use Rattle.closing.proofs.ClosingLaws.{closing_left}
-use borrow.Author.Rules.{rules}
 use Rattle.closing.proofs.close.Goals as goal
 
 pub returns : goal.returns

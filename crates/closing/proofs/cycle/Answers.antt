@@ -2,9 +2,7 @@
 -- Assumes nothing.
 use Prim.Native.Nat.{min}
 use lib.ListN.{take}
-use borrow.Author.Tests.{not-true, not-false}
 use Rattle.closing.proofs.ClosingLaws.{cioq_left, crossbar_left}
-use borrow.Author.Rules.{rules}
 use Rattle.closing.proofs.cycle.Goals as goal
 
 pub returns-then-not-crossbar : goal.returns-then-not-crossbar

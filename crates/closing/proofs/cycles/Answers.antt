@@ -1,12 +1,8 @@
 use borrow.Author.Rules.{rules}
 use native.Mathlib.Omega.{arith}
 use mathlib.Core.Path.{◌≡◌, refl, ◌∙◌}
-use Prim.Native.Nat.{◌-◌, ◌≤◌, min}
+use Prim.Native.Nat.{min}
 use lib.ListN.{length, take}
-use borrow.Author.Tests.{not-true}
-use Rattle.queues.specs.declared.Queues.{Queues}
-use Rattle.queues.specs.Slot.{cycles}
-use Rattle.queues.specs.Lent.{Held, LeftAll}
 use Rattle.closing.proofs.ClosingLaws.{cycles_begun, cycles_more, cycles_idle}
 use Rattle.closing.proofs.cycles.Goals as goal
 

@@ -1,10 +1,8 @@
 -- `closing::send` meets its contract.
 -- Assumes nothing.
 use mathlib.Core.Path.{sym, ◌∙◌}
-use borrow.Author.Tests.{not-true, not-false}
 use Rattle.queues.specs.Events.{sent_at}
 use Rattle.closing.proofs.ClosingLaws.{sends_none, sends_one_lem}
-use borrow.Author.Rules.{rules}
 use Rattle.closing.proofs.send.Goals as goal
 
 pub returns-then-not-some : goal.returns-then-not-some

@@ -1,12 +1,9 @@
 use borrow.Author.Rules.{rules}
 use native.Mathlib.Omega.{arith}
-use mathlib.Core.Path.{◌≡◌, refl, ◌∙◌}
-use Prim.Native.Nat.{◌-◌, ◌≤◌}
-use lib.ListN.{length}
+use mathlib.Core.Path.{refl, ◌∙◌}
 use Rattle.queues.specs.Events.{log_of}
 use Rattle.queues.specs.Log.{logged, onward}
-use Rattle.queues.specs.Slot.{sendings, free}
-use Rattle.closing.specs.Sent.{Sent}
+use Rattle.queues.specs.Slot.{sendings}
 use Rattle.closing.proofs.ClosingLaws.{sendings_more, sendings_done}
 use Rattle.closing.proofs.sendings.Goals as goal
 

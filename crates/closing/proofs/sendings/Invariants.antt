@@ -1,15 +1,10 @@
 -- `closing::sendings` meets its contract. The invariant: what is left is what the outputs passed leave.
 -- Assumes nothing.
-use borrow.Author.Rules.{rules}
-use native.Mathlib.Omega.{arith}
-use mathlib.Core.Path.{◌≡◌, refl, ◌∙◌}
+use mathlib.Core.Path.{◌≡◌}
 use Prim.Native.Nat.{◌-◌, ◌≤◌}
 use lib.ListN.{length}
-use Rattle.queues.specs.Events.{log_of}
-use Rattle.queues.specs.Log.{logged, onward}
 use Rattle.queues.specs.Slot.{sendings, free}
 use Rattle.closing.specs.Sent.{Sent}
-use Rattle.closing.proofs.ClosingLaws.{sendings_more, sendings_done}
 use Rattle.closing.proofs.sendings.Given as goal
 
 abbrev pub invariant-loop-j : goal.invariant-loop-j

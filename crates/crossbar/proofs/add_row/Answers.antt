@@ -1,12 +1,11 @@
 use borrow.Author.Rules.{rules}
 use native.Mathlib.Omega.{arith}
-use Prim.Native.Nat.{◌-◌, ◌≤◌}
 use native.Mathlib.Nat.{not-suc-le-zero}
-use mathlib.Core.Path.{◌≡◌, ◌∙◌}
-use lib.ListN.{length, get_or, length-set}
+use mathlib.Core.Path.{◌∙◌}
+use lib.ListN.{get_or, length-set}
 use lib.Bits.{bit_or}
 use Rattle.queues.specs.Queues.{place}
-use Rattle.crossbar.proofs.ColumnsLaws.{Said, said_more}
+use Rattle.crossbar.proofs.ColumnsLaws.{said_more}
 use Rattle.crossbar.proofs.add_row.Goals as goal
 
 pub loop-j-init : goal.loop-j-init

@@ -1,14 +1,10 @@
 -- `crossbar::add_row` meets its contract. The invariant: bits that are none were none, and the crosspoints passed are empty there.
 -- Assumes nothing.
-use borrow.Author.Rules.{rules}
-use native.Mathlib.Omega.{arith}
 use Prim.Native.Nat.{◌-◌, ◌≤◌}
-use native.Mathlib.Nat.{not-suc-le-zero}
-use mathlib.Core.Path.{◌≡◌, ◌∙◌}
-use lib.ListN.{length, get_or, length-set}
-use lib.Bits.{bit_or}
+use mathlib.Core.Path.{◌≡◌}
+use lib.ListN.{length, get_or}
 use Rattle.queues.specs.Queues.{place}
-use Rattle.crossbar.proofs.ColumnsLaws.{Said, said_more}
+use Rattle.crossbar.proofs.ColumnsLaws.{Said}
 use Rattle.crossbar.proofs.add_row.Given as goal
 
 abbrev pub invariant-loop-j : goal.invariant-loop-j

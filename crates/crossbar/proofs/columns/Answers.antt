@@ -1,10 +1,10 @@
 use borrow.Author.Rules.{rules}
 use native.Mathlib.Omega.{arith}
-use Prim.Native.Nat.{ℕ, ◌-◌, ◌≤◌}
+use Prim.Native.Nat.{ℕ}
 use native.Mathlib.Nat.{not-suc-le-zero}
-use mathlib.Core.Path.{◌≡◌, refl}
-use lib.ListN.{length, get_or-replicate}
-use Rattle.crossbar.proofs.ColumnsLaws.{SaidOf, row_more, all_rows}
+use mathlib.Core.Path.{refl}
+use lib.ListN.{get_or-replicate}
+use Rattle.crossbar.proofs.ColumnsLaws.{row_more, all_rows}
 use Rattle.crossbar.proofs.columns.Goals as goal
 
 pub returns-then-crosslen-ne256 : goal.returns-then-crosslen-ne256

@@ -1,12 +1,9 @@
 -- `crossbar::columns` meets its contract. The invariant: where the bits are none the rows passed are empty.
 -- Assumes nothing.
-use borrow.Author.Rules.{rules}
-use native.Mathlib.Omega.{arith}
-use Prim.Native.Nat.{ℕ, ◌-◌, ◌≤◌}
-use native.Mathlib.Nat.{not-suc-le-zero}
-use mathlib.Core.Path.{◌≡◌, refl}
-use lib.ListN.{length, get_or-replicate}
-use Rattle.crossbar.proofs.ColumnsLaws.{SaidOf, row_more, all_rows}
+use Prim.Native.Nat.{◌-◌, ◌≤◌}
+use mathlib.Core.Path.{◌≡◌}
+use lib.ListN.{length}
+use Rattle.crossbar.proofs.ColumnsLaws.{SaidOf}
 use Rattle.crossbar.proofs.columns.Given as goal
 
 abbrev pub invariant-loop-i : goal.invariant-loop-i

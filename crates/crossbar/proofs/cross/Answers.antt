@@ -3,7 +3,6 @@
 use mathlib.Core.Path.{refl}
 use Rattle.queues.specs.Events.{crossed_at}
 use Rattle.crossbar.proofs.CrossbarLaws.{room_there, cross_moves, cross_stays}
-use borrow.Author.Rules.{rules}
 use Rattle.crossbar.proofs.cross.Goals as goal
 
 pub shift-requires : goal.shift-requires

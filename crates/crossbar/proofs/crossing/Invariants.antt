@@ -1,18 +1,10 @@
 -- `crossbar::crossing` meets its contract. The invariant: no output passed will do.
 -- Assumes nothing.
-use borrow.Author.Rules.{rules}
-use native.Mathlib.Omega.{arith}
-use mathlib.Core.Path.{◌≡◌, sym, ◌∙◌}
+use mathlib.Core.Path.{◌≡◌}
 use Prim.Native.Nat.{ℕ, ◌-◌, ◌≤◌, ◌<◌}
-use native.Mathlib.Nat.{not-suc-le-zero}
 use mathlib.Core.Bool.{Bool, false, ◌&&◌}
 use mathlib.Core.List.{List}
-use borrow.Author.Count.{below_more}
-use Rattle.base.proofs.Lowest.{lowest_found, lowest_none}
 use Rattle.queues.specs.Queues.{place, waits, has_room}
-use Rattle.queues.specs.Flow.{still}
-use Rattle.queues.specs.Crossbar.{crossing}
-use Rattle.queues.proofs.EmptyLaws.{row_none}
 use Rattle.crossbar.proofs.crossing.Given as goal
 
 -- whether a packet of input i can move to crosspoint (i, j)

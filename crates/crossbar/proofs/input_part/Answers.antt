@@ -1,6 +1,5 @@
 -- `crossbar::input_part` meets its contract.
 -- Assumes nothing.
-use borrow.Author.Rules.{rules}
 use Rattle.crossbar.proofs.input_part.Goals as goal
 
 pub shape_of-inlen : goal.shape_of-inlen

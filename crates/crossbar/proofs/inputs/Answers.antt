@@ -1,10 +1,8 @@
 use borrow.Author.Rules.{rules}
 use native.Mathlib.Omega.{arith}
-use mathlib.Core.Path.{◌≡◌, refl, ◌∙◌}
-use Prim.Native.Nat.{◌-◌, ◌≤◌}
-use lib.ListN.{length, take}
+use mathlib.Core.Path.{refl, ◌∙◌}
+use lib.ListN.{take}
 use lib.Seq.{get_or-take}
-use Rattle.queues.specs.Lent.{Left}
 use Rattle.queues.specs.Crossbar.{crossings}
 use Rattle.crossbar.proofs.LeftLaws.{left_still}
 use Rattle.crossbar.proofs.CrossbarLaws.{first_length, input_more, all_inputs}

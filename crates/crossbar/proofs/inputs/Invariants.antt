@@ -1,15 +1,10 @@
 -- `crossbar::inputs` meets its contract. The invariant: what is left is what the inputs passed leave.
 -- Assumes nothing.
-use borrow.Author.Rules.{rules}
-use native.Mathlib.Omega.{arith}
-use mathlib.Core.Path.{◌≡◌, refl, ◌∙◌}
+use mathlib.Core.Path.{◌≡◌}
 use Prim.Native.Nat.{◌-◌, ◌≤◌}
 use lib.ListN.{length, take}
-use lib.Seq.{get_or-take}
 use Rattle.queues.specs.Lent.{Left}
 use Rattle.queues.specs.Crossbar.{crossings}
-use Rattle.crossbar.proofs.LeftLaws.{left_still}
-use Rattle.crossbar.proofs.CrossbarLaws.{first_length, input_more, all_inputs}
 use Rattle.crossbar.proofs.inputs.Given as goal
 
 abbrev pub invariant-loop-u : goal.invariant-loop-u

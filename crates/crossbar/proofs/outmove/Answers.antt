@@ -1,11 +1,9 @@
 -- `crossbar::outmove` meets its contract.
 -- Assumes nothing.
-use borrow.Author.Rules.{rules}
 use native.Mathlib.Omega.{arith}
 use mathlib.Core.Path.{◌≡◌, refl, sym, ◌∙◌}
 use mathlib.Core.Bool.{true, false}
 use lib.ListN.{take}
-use borrow.Author.Tests.{not-true, not-false}
 use Rattle.queues.specs.Queues.{has_room}
 use Rattle.queues.specs.Events.{outmoved_at}
 use Rattle.crossbar.proofs.CrossbarLaws.{outmove_full, outmove_moves, outmove_stays}

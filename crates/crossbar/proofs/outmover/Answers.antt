@@ -1,11 +1,10 @@
 use borrow.Author.Rules.{rules}
 use native.Mathlib.Omega.{arith}
 use mathlib.Core.Path.{◌≡◌, sym, ◌∙◌}
-use Prim.Native.Nat.{ℕ, ◌-◌, ◌≤◌, ◌<◌}
+use Prim.Native.Nat.{ℕ}
 use native.Mathlib.Nat.{not-suc-le-zero}
 use mathlib.Core.Bool.{Bool, false}
 use mathlib.Core.List.{List}
-use lib.ListN.{get_or}
 use borrow.Author.Count.{below_more}
 use Rattle.base.proofs.Lowest.{lowest_found, lowest_none}
 use Rattle.queues.specs.Queues.{place, waits}

@@ -1,17 +1,11 @@
 -- `crossbar::outmover` meets its contract. The invariant: no input passed has a packet for output j.
 -- Assumes nothing.
-use borrow.Author.Rules.{rules}
-use native.Mathlib.Omega.{arith}
-use mathlib.Core.Path.{◌≡◌, sym, ◌∙◌}
+use mathlib.Core.Path.{◌≡◌}
 use Prim.Native.Nat.{ℕ, ◌-◌, ◌≤◌, ◌<◌}
-use native.Mathlib.Nat.{not-suc-le-zero}
 use mathlib.Core.Bool.{Bool, false}
 use mathlib.Core.List.{List}
 use lib.ListN.{get_or}
-use borrow.Author.Count.{below_more}
-use Rattle.base.proofs.Lowest.{lowest_found, lowest_none}
 use Rattle.queues.specs.Queues.{place, waits}
-use Rattle.crossbar.proofs.CrossbarLaws.{outmover_is}
 use Rattle.crossbar.proofs.outmover.Given as goal
 
 -- whether the input at place u has a packet for output j

@@ -1,6 +1,5 @@
 -- `crossbar::output_part` meets its contract.
 -- Assumes nothing.
-use borrow.Author.Rules.{rules}
 use Rattle.crossbar.proofs.output_part.Goals as goal
 
 pub shape_of-crosslen : goal.shape_of-crosslen

@@ -1,11 +1,9 @@
 use borrow.Author.Rules.{rules}
 use native.Mathlib.Omega.{arith}
-use mathlib.Core.Path.{◌≡◌, refl, ◌∙◌}
-use Prim.Native.Nat.{◌-◌, ◌≤◌}
-use lib.ListN.{length, take, get_or}
+use mathlib.Core.Path.{refl, ◌∙◌}
+use lib.ListN.{take, get_or}
 use borrow.Author.Tests.{eqb-true}
 use Rattle.queues.specs.Queues.{place}
-use Rattle.queues.specs.Lent.{Left}
 use Rattle.queues.specs.Crossbar.{outmoves}
 use Rattle.crossbar.proofs.LeftLaws.{left_still}
 use Rattle.crossbar.proofs.ColumnsLaws.{stays_empty}

@@ -1,17 +1,10 @@
 -- `crossbar::outputs` meets its contract. The invariant: what is left is what the outputs passed leave.
 -- Assumes nothing.
-use borrow.Author.Rules.{rules}
-use native.Mathlib.Omega.{arith}
-use mathlib.Core.Path.{◌≡◌, refl, ◌∙◌}
+use mathlib.Core.Path.{◌≡◌}
 use Prim.Native.Nat.{◌-◌, ◌≤◌}
-use lib.ListN.{length, take, get_or}
-use borrow.Author.Tests.{eqb-true}
-use Rattle.queues.specs.Queues.{place}
+use lib.ListN.{length, take}
 use Rattle.queues.specs.Lent.{Left}
 use Rattle.queues.specs.Crossbar.{outmoves}
-use Rattle.crossbar.proofs.LeftLaws.{left_still}
-use Rattle.crossbar.proofs.ColumnsLaws.{stays_empty}
-use Rattle.crossbar.proofs.CrossbarLaws.{output_more, all_outputs}
 use Rattle.crossbar.proofs.outputs.Given as goal
 
 abbrev pub invariant-loop-j : goal.invariant-loop-j

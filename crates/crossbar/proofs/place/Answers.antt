@@ -2,7 +2,6 @@
 -- Assumes nothing.
 use mathlib.Core.Path.{refl}
 use Rattle.queues.specs.Queues.{place}
-use borrow.Author.Rules.{rules}
 use Rattle.crossbar.proofs.place.Goals as goal
 
 pub returns : goal.returns

@@ -2,7 +2,6 @@
 -- Assumes nothing.
 use Rattle.queues.specs.Queues.{place}
 use Rattle.crossbar.proofs.LeftLaws.{left_one}
-use borrow.Author.Rules.{rules}
 use Rattle.crossbar.proofs.shift.Goals as goal
 
 pub shape_of-from : goal.shape_of-from

@@ -2,7 +2,6 @@
 -- Assumes nothing.
 use native.Mathlib.Omega.{arith}
 use mathlib.Core.Path.{sym, ◌∙◌}
-use borrow.Author.Rules.{rules}
 use Rattle.greedy_bound.proofs.LimitLaws.{counted, limit_refused, limit_found}
 use Rattle.greedy_bound.proofs.limit.Goals as goal
 

@@ -1,6 +1,5 @@
 -- `greedy_bound::of_run` meets its contract.
 -- Assumes nothing.
-use borrow.Author.Rules.{rules}
 use Rattle.greedy_bound.specs.Answer.{limits_of}
 use Rattle.greedy_bound.proofs.of_run.Goals as goal
 

@@ -1,6 +1,5 @@
 -- `greedy_bound::refusal` meets its contract.
 -- Assumes nothing.
-use borrow.Author.Rules.{rules}
 use mathlib.Core.Path.{◌∙◌, ap₂}
 use Rattle.base.specs.Refusal.{◌⨟◌}
 use Rattle.greedy_bound.specs.Answer.{limit_refusal}

@@ -1,6 +1,5 @@
 -- `reader::slot_after` meets its contract.
 -- Assumes nothing.
-use borrow.Author.Rules.{rules}
 use mathlib.Core.Path.{sym, ◌∙◌}
 use native.Mathlib.Omega.{arith}
 use Rattle.trace.proofs.SlotsLaws.{stands_below, slots_few}

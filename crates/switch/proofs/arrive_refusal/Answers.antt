@@ -1,8 +1,6 @@
 -- `switch::arrive_refusal` meets its contract.
 -- Assumes nothing.
-use borrow.Author.Rules.{rules}
-use mathlib.Core.Path.{◌≡◌, refl, sym, ◌∙◌, ap, ap₂}
-use Prim.Native.Nat.{ℕ}
+use mathlib.Core.Path.{◌∙◌, ap, ap₂}
 use mathlib.Core.Bool.{Bool}
 use Rattle.base.specs.Refusal.{unless, ◌⨟◌}
 use Rattle.switch.specs.Steps.{arrive_refusal}

@@ -1,7 +1,6 @@
 -- `switch::close_refusal` meets its contract.
 -- Assumes nothing.
-use borrow.Author.Rules.{rules}
-use mathlib.Core.Path.{◌≡◌, refl, sym, ◌∙◌, ap, ap₂}
+use mathlib.Core.Path.{◌∙◌, ap₂}
 use Rattle.base.specs.Refusal.{◌⨟◌}
 use Rattle.switch.specs.Steps.{close_refusal}
 use Rattle.switch.proofs.close_refusal.Goals as goal

@@ -1,12 +1,10 @@
 -- `switch::closed_queues` meets its contract.
 -- Assumes nothing.
 use borrow.Author.Rules.{rules}
-use native.Mathlib.Omega.{arith}
-use mathlib.Core.Path.{◌≡◌, refl, sym, ◌∙◌, ap, ap₂}
+use mathlib.Core.Path.{refl, ◌∙◌, ap}
 use Rattle.layout.specs.Header.{has_crosspoints}
 use Rattle.queues.specs.Turn.{turn}
-use Rattle.queues.specs.Slot.{Done, closing}
-use Rattle.queues.specs.Lent.{Held}
+use Rattle.queues.specs.Slot.{Done}
 use Rattle.slot_laws.proofs.Balance.{Sized}
 use Rattle.switch.proofs.SettlingLaws.{same_closing, closed_as}
 use Rattle.switch.proofs.closed_queues.Goals as goal

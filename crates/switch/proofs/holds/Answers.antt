@@ -1,6 +1,5 @@
 -- `switch::holds` meets its contract.
 -- Assumes nothing.
-use borrow.Author.Rules.{rules}
 use Rattle.switch.specs.Switch.{packets, held_in, held_out, held_cross}
 use Rattle.switch.proofs.holds.Goals as goal
 

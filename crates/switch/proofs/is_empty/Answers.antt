@@ -1,6 +1,5 @@
 -- `switch::is_empty` meets its contract.
 -- Assumes nothing.
-use borrow.Author.Rules.{rules}
 use Rattle.switch.specs.Switch.{held_all, held}
 use Rattle.switch.proofs.is_empty.Goals as goal
 

@@ -1,6 +1,5 @@
 -- `switch::refusal` meets its contract.
 -- Assumes nothing.
-use borrow.Author.Rules.{rules}
 use mathlib.Core.Path.{◌∙◌, ap}
 use mathlib.Core.Bool.{Bool}
 use Rattle.base.specs.Refusal.{unless}

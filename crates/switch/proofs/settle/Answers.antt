@@ -1,9 +1,7 @@
 -- `switch::settle` meets its contract: what is held and dropped arrived, so nothing wraps.
 -- Assumes nothing.
-use borrow.Author.Rules.{rules}
 use native.Mathlib.Omega.{arith}
-use mathlib.Core.Path.{◌≡◌, refl, sym, ◌∙◌, ap, ap₂}
-use Prim.Native.Nat.{ℕ, ◌+◌, ◌-◌, ◌≤◌, ◌<◌}
+use Prim.Native.Nat.{◌+◌, ◌-◌, ◌≤◌, ◌<◌}
 use Rattle.switch.specs.Switch.{held_all}
 use Rattle.switch.proofs.SettlingLaws.{held_arrived}
 use Rattle.switch.proofs.settle.Goals as goal

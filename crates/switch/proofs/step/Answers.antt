@@ -1,12 +1,8 @@
 -- `switch::step` meets its contract.
 -- Assumes nothing.
 use borrow.Author.Rules.{rules}
-use native.Mathlib.Omega.{arith}
-use mathlib.Core.Path.{◌≡◌, refl, sym, ◌∙◌, ap, ap₂}
-use Prim.Native.Nat.{ℕ, ◌+◌, ◌≤◌}
-use Rattle.queues.specs.declared.Queues.{Queues}
+use mathlib.Core.Path.{sym, ◌∙◌, ap}
 use Rattle.slot_laws.proofs.Balance.{Sized}
-use Rattle.switch.specs.Switch.{held_all}
 use Rattle.switch.specs.Settling.{settled}
 use Rattle.switch.proofs.AllowedLaws.{sound}
 use Rattle.switch.proofs.ClosingLaws.{left_arrived, closed_counts}

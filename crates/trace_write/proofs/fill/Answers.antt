@@ -1,8 +1,7 @@
 -- `trace_write::fill` meets its contract: the four parts stand one after the other.
 -- Assumes nothing.
-use borrow.Author.Rules.{rules}
 use native.Mathlib.Omega.{arith}
-use mathlib.Core.Path.{◌≡◌, refl, sym, ◌∙◌, ap}
+use mathlib.Core.Path.{ap}
 use Rattle.layout.specs.declared.Places.{Places}
 use Prim.Native.Nat.{◌≤◌}
 use lib.ListN.{length}

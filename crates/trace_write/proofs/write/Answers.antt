@@ -1,6 +1,5 @@
 -- `trace_write::write` meets its contract: at each way out the chain of refusals stands at that number.
 -- Assumes nothing.
-use borrow.Author.Rules.{rules}
 use mathlib.Core.Path.{sym, ◌∙◌}
 use Rattle.layout.proofs.HeaderLaws.{laid_at}
 use Rattle.trace_write.proofs.WritingLaws.{refused_by_header, refused_by_body, fillable, filled_out}
@@ -17,7 +16,7 @@ returns-then-n-ne0 c =
     c.in-At.is
     c.refusal-n.ensures
     c.if-n-ne0.true
-    in record { value = all.0; out_after = all.1; }
+    in record { value = all.0; out_after = all.1 }
 
 pub fill-requires : goal.fill-requires
 fill-requires c =
@@ -32,7 +31,7 @@ returns-in-Refused c =
     let all =
     let a = c.args in
     refused_by_header a.header a.capacities.now a.counts.now a.ports.now a.out.now c.lay_out.ensures _ c.in-Refused.is
-    in record { value = all.0; out_after = all.1; }
+    in record { value = all.0; out_after = all.1 }
 
 pub returns-else-n-ne0 : goal.returns-else-n-ne0
 returns-else-n-ne0 c =
@@ -44,4 +43,4 @@ returns-else-n-ne0 c =
     c.if-n-ne0.false
     _
     c.fill.ensures
-    in record { value = all.0; out_after = all.1; }
+    in record { value = all.0; out_after = all.1 }

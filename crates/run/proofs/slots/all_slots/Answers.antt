@@ -1,14 +1,12 @@
 use borrow.Author.Rules.{rules}
 use native.Mathlib.Omega.{arith}
-use mathlib.Core.Path.{◌≡◌, refl, sym, ◌∙◌, ap}
-use Prim.Native.Nat.{ℕ, ◌+◌, ◌/◌, ◌-◌, ◌≤◌, ◌<◌}
-use mathlib.Core.List.{List}
-use lib.ListN.{length}
+use mathlib.Core.Path.{refl, ◌∙◌, ap}
+use Prim.Native.Nat.{◌+◌, ◌<◌}
 use Rattle.trace.specs.Reading.{header_of}
 use Rattle.base.specs.Below.{sum_below}
 use Rattle.trace.specs.Slots.{before}
 use Rattle.run.specs.Run.{slots}
-use Rattle.run.proofs.PassingLaws.{Here, here_start, held_here, here_by, here_end, queues_here, drops_few, passed_few, start_next, part_few, ports_of_lem}
+use Rattle.run.proofs.PassingLaws.{here_start, held_here, here_by, here_end, queues_here, drops_few, passed_few, start_next, part_few, ports_of_lem}
 use Rattle.trace.specs.Slots.{part_from}
 use Rattle.switch.specs.declared.Switch.{Switch}
 use Rattle.trace.proofs.SlotsLaws.{slots_few}

@@ -1,8 +1,6 @@
 -- `run::slots::one_slot` meets its contract.
 -- Assumes nothing.
-use borrow.Author.Rules.{rules}
-use mathlib.Core.Path.{◌≡◌, refl, sym, ◌∙◌, ap}
-use Prim.Native.Nat.{ℕ, ◌/◌}
+use Prim.Native.Nat.{◌/◌}
 use lib.ListN.{length}
 use Rattle.layout.specs.Header.{has_crosspoints}
 use Rattle.queues.specs.Slot.{Done}

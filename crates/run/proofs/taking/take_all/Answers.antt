@@ -1,15 +1,12 @@
 use borrow.Author.Rules.{rules}
 use native.Mathlib.Omega.{arith}
-use mathlib.Core.Path.{◌≡◌, refl, sym, ◌∙◌, ap}
-use Prim.Native.Nat.{ℕ, ◌+◌, ◌*◌, ◌/◌, ◌-◌, ◌≤◌, ◌<◌}
-use mathlib.Core.List.{List}
+use mathlib.Core.Path.{◌≡◌, refl, ◌∙◌}
+use Prim.Native.Nat.{◌+◌, ◌*◌, ◌/◌, ◌≤◌, ◌<◌}
 use lib.ListN.{length}
 use Rattle.queues.specs.declared.Queues.{Queues}
-use Rattle.run.specs.Taking.{takings, Taken}
 use Rattle.run.proofs.TakingLaws.{one_dropped, nothing_taken, taken_more}
 use mathlib.Core.List.{[]}
 use lib.ListN.{get_or}
-use Rattle.queues.specs.Slot.{arrival}
 use Rattle.run.proofs.taking.take_all.Goals as goal
 
 pub loop-k-init : goal.loop-k-init

@@ -1,17 +1,10 @@
 -- `run::taking::take_all` meets its contract. The invariant: what the arrivals passed leave, whatever else the switch holds.
 -- Assumes nothing.
-use borrow.Author.Rules.{rules}
-use native.Mathlib.Omega.{arith}
-use mathlib.Core.Path.{◌≡◌, refl, sym, ◌∙◌, ap}
-use Prim.Native.Nat.{ℕ, ◌+◌, ◌*◌, ◌/◌, ◌-◌, ◌≤◌, ◌<◌}
-use mathlib.Core.List.{List}
+use mathlib.Core.Path.{◌≡◌}
+use Prim.Native.Nat.{◌-◌, ◌≤◌}
 use lib.ListN.{length}
 use Rattle.queues.specs.declared.Queues.{Queues}
 use Rattle.run.specs.Taking.{takings, Taken}
-use Rattle.run.proofs.TakingLaws.{one_dropped, nothing_taken, taken_more}
-use mathlib.Core.List.{[]}
-use lib.ListN.{get_or}
-use Rattle.queues.specs.Slot.{arrival}
 use Rattle.run.proofs.taking.take_all.Given as goal
 
 abbrev pub invariant-loop-k : goal.invariant-loop-k

@@ -1,7 +1,6 @@
 -- `run::taking::take_one` meets its contract.
 -- Assumes nothing.
-use borrow.Author.Rules.{rules}
-use mathlib.Core.Path.{◌≡◌, refl, sym, ◌∙◌, ap}
+use mathlib.Core.Path.{sym, ◌∙◌}
 use Rattle.queues.specs.Queues.{place}
 use Rattle.queues.specs.Events.{accepted_at, dropped_at}
 use Rattle.run.proofs.TakingLaws.{accepted_left, dropped_left}

@@ -1,7 +1,6 @@
 -- `switch::Switch::arrive` meets its contract.
 -- Assumes nothing.
-use borrow.Author.Rules.{rules}
-use mathlib.Core.Path.{◌≡◌, refl, sym, ◌∙◌, ap}
+use mathlib.Core.Path.{sym, ◌∙◌}
 use Rattle.switch.proofs.StepsLaws.{arrive_refused, arrive_taken}
 use Rattle.switch.proofs.Switch.arrive.Goals as goal
 

@@ -1,7 +1,6 @@
 -- `switch::Switch::close` meets its contract.
 -- Assumes nothing.
-use borrow.Author.Rules.{rules}
-use mathlib.Core.Path.{◌≡◌, refl, sym, ◌∙◌, ap, ap₂}
+use mathlib.Core.Path.{sym, ◌∙◌}
 use Rattle.switch.proofs.SettlingLaws.{close_refused, close_done, may_close}
 use Rattle.switch.proofs.Switch.close.Goals as goal
 

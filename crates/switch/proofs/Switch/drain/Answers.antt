@@ -1,7 +1,5 @@
 -- `switch::Switch::drain` meets its contract.
 -- Assumes nothing.
-use borrow.Author.Rules.{rules}
-use mathlib.Core.Path.{◌≡◌, refl, sym, ◌∙◌, ap}
 use Rattle.switch.proofs.SettlingLaws.{drain_refused}
 use Rattle.switch.proofs.Switch.drain.Goals as goal
 

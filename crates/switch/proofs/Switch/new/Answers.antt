@@ -1,7 +1,6 @@
 -- `switch::Switch::new` meets its contract.
 -- Assumes nothing.
-use borrow.Author.Rules.{rules}
-use mathlib.Core.Path.{◌≡◌, refl, sym, ◌∙◌, ap, ap₂}
+use mathlib.Core.Path.{sym, ◌∙◌}
 use Rattle.trace.proofs.ReadingLaws.{accepted}
 use Rattle.switch.proofs.MakingLaws.{made_refused, made_accepted}
 use Rattle.switch.proofs.Switch.new.Goals as goal

@@ -1,7 +1,6 @@
 -- `switch::judge::allowed` meets its contract.
 -- Assumes nothing.
-use borrow.Author.Rules.{rules}
-use mathlib.Core.Path.{◌≡◌, refl, sym, ◌∙◌, ap, ap₂}
+use mathlib.Core.Path.{◌∙◌, ap, ap₂}
 use mathlib.Core.Bool.{Bool, ◌&&◌}
 use Rattle.layout.specs.Header.{order_allowed}
 use Rattle.switch.specs.Allowed.{switch_allowed}

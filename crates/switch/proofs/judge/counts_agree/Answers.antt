@@ -1,7 +1,5 @@
 -- `switch::judge::counts_agree` meets its contract.
 -- Assumes nothing.
-use borrow.Author.Rules.{rules}
-use mathlib.Core.Path.{◌≡◌, refl, sym, ◌∙◌, ap}
 use Rattle.switch.specs.Switch.{held_all, held}
 use Rattle.switch.specs.Allowed.{counts_agree}
 use Rattle.switch.proofs.judge.counts_agree.Goals as goal

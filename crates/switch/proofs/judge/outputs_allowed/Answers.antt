@@ -1,15 +1,7 @@
 use borrow.Author.Rules.{rules}
 use native.Mathlib.Omega.{arith}
-use mathlib.Core.Path.{◌≡◌, refl, sym, ◌∙◌, ap}
-use Prim.Native.Nat.{ℕ, ◌+◌, ◌-◌, ◌≤◌}
-use mathlib.Core.Bool.{Bool, true, false, ◌&&◌}
-use mathlib.Core.List.{List}
-use lib.ListN.{get_or}
-use borrow.Author.Tests.{not-true, not-false}
-use Rattle.base.specs.Below.{all_below}
+use mathlib.Core.Path.{sym, ◌∙◌}
 use Rattle.base.proofs.Below.{all_none, all_more, all_fails, all_done}
-use lib.Dec.{ltb}
-use Rattle.switch.specs.Allowed.{queue_allowed}
 use Rattle.switch.proofs.judge.outputs_allowed.Invariants.{good}
 use Rattle.switch.proofs.judge.outputs_allowed.Goals as goal
 

@@ -1,14 +1,10 @@
 use borrow.Author.Rules.{rules}
 use native.Mathlib.Omega.{arith}
-use mathlib.Core.Path.{◌≡◌, refl, sym, ◌∙◌, ap}
-use Prim.Native.Nat.{ℕ, ◌+◌, ◌-◌, ◌≤◌}
-use mathlib.Core.Bool.{Bool, true, false, ◌&&◌}
-use mathlib.Core.List.{List}
+use mathlib.Core.Path.{sym, ◌∙◌, ap}
+use mathlib.Core.Bool.{Bool, ◌&&◌}
 use lib.ListN.{get_or}
-use borrow.Author.Tests.{not-true, not-false}
-use Rattle.base.specs.Below.{all_below}
 use Rattle.base.proofs.Below.{all_none, all_more, all_fails, all_done}
-use Rattle.switch.specs.Allowed.{used_pair, queue_allowed}
+use Rattle.switch.specs.Allowed.{queue_allowed}
 use Rattle.switch.proofs.judge.pairs_allowed.Invariants.{good}
 use Rattle.switch.proofs.judge.pairs_allowed.Goals as goal
 

@@ -1,8 +1,7 @@
 -- `switch::judge::queues_allowed` meets its contract.
 -- Assumes nothing.
-use borrow.Author.Rules.{rules}
-use mathlib.Core.Path.{◌≡◌, refl, sym, ◌∙◌, ap, ap₂}
-use mathlib.Core.Bool.{Bool, ◌&&◌}
+use mathlib.Core.Path.{◌∙◌, ap₂}
+use mathlib.Core.Bool.{◌&&◌}
 use Rattle.layout.specs.Header.{has_crosspoints}
 use Rattle.switch.specs.Allowed.{queues_allowed}
 use Rattle.switch.proofs.judge.queues_allowed.Goals as goal

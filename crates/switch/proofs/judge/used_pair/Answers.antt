@@ -1,6 +1,5 @@
 -- `switch::judge::used_pair_lem` meets its contract.
 -- Assumes nothing.
-use borrow.Author.Rules.{rules}
 use Rattle.switch.specs.Allowed.{used_pair}
 use Rattle.switch.proofs.judge.used_pair.Goals as goal
 

@@ -1,11 +1,7 @@
 -- `switch::make::fresh` meets its contract.
 -- Assumes nothing.
 use borrow.Author.Rules.{rules}
-use native.Mathlib.Omega.{arith}
-use mathlib.Core.Path.{◌≡◌, refl, sym, ◌∙◌, ap}
-use Rattle.layout.specs.declared.Header.{Header}
-use Rattle.trace.specs.Reading.{header_of}
-use Rattle.switch.specs.Making.{fresh, input_capacities}
+use Rattle.switch.specs.Making.{input_capacities}
 use Rattle.switch.proofs.MakingLaws.{ports_few}
 use Rattle.switch.proofs.MakingLaws.{fresh_made}
 use Rattle.switch.proofs.make.fresh.Goals as goal

@@ -1,7 +1,6 @@
 -- `switch::make::nought` meets its contract.
 -- Assumes nothing.
-use borrow.Author.Rules.{rules}
-use mathlib.Core.Path.{◌≡◌, refl, sym, ◌∙◌, ap}
+use mathlib.Core.Path.{◌∙◌, ap}
 use Rattle.switch.specs.Making.{nought, unused}
 use Rattle.switch.proofs.make.nought.Goals as goal
 

@@ -1,14 +1,8 @@
 use borrow.Author.Rules.{rules}
 use native.Mathlib.Omega.{arith}
-use mathlib.Core.Path.{◌≡◌, refl, sym, ◌∙◌, ap}
-use Prim.Native.Nat.{ℕ, ◌+◌, ◌-◌, ◌*◌, ◌≤◌, ◌<◌}
-use mathlib.Core.Bool.{cond}
-use mathlib.Core.List.{List}
+use mathlib.Core.Path.{refl}
 use native.Mathlib.Nat.{not-suc-le-zero}
-use lib.ListN.{length, get_or}
 use Rattle.base.proofs.Listed.{fill_more, fill_done}
-use lib.Dec.{ltb}
-use Rattle.trace.specs.Reading.{capacity}
 use Rattle.switch.specs.Making.{output_capacities}
 use Rattle.switch.proofs.make.output_capacities.Invariants.{at}
 use Rattle.switch.proofs.make.output_capacities.Goals as goal

@@ -1,17 +1,12 @@
 -- `switch::make::output_capacities` meets its contract. The invariant: each place passed is as it should be.
 -- Assumes nothing.
-use borrow.Author.Rules.{rules}
-use native.Mathlib.Omega.{arith}
-use mathlib.Core.Path.{◌≡◌, refl, sym, ◌∙◌, ap}
+use mathlib.Core.Path.{◌≡◌}
 use Prim.Native.Nat.{ℕ, ◌+◌, ◌-◌, ◌*◌, ◌≤◌, ◌<◌}
 use mathlib.Core.Bool.{cond}
 use mathlib.Core.List.{List}
-use native.Mathlib.Nat.{not-suc-le-zero}
 use lib.ListN.{length, get_or}
-use Rattle.base.proofs.Listed.{fill_more, fill_done}
 use lib.Dec.{ltb}
 use Rattle.trace.specs.Reading.{capacity}
-use Rattle.switch.specs.Making.{output_capacities}
 use Rattle.switch.proofs.make.output_capacities.Given as goal
 
 -- what stands at place j

@@ -1,14 +1,10 @@
 -- `switch::make::pair_capacities` meets its contract. The invariant: each place passed is as it should be.
 -- Assumes nothing.
-use borrow.Author.Rules.{rules}
-use native.Mathlib.Omega.{arith}
-use mathlib.Core.Path.{◌≡◌, refl, sym, ◌∙◌, ap}
-use Prim.Native.Nat.{ℕ, ◌+◌, ◌-◌, ◌*◌, ◌≤◌, ◌<◌}
+use mathlib.Core.Path.{◌≡◌}
+use Prim.Native.Nat.{ℕ, ◌-◌, ◌≤◌, ◌<◌}
 use mathlib.Core.Bool.{cond}
 use mathlib.Core.List.{List}
-use native.Mathlib.Nat.{not-suc-le-zero}
 use lib.ListN.{length, get_or}
-use Rattle.base.proofs.Listed.{fill_more, fill_done}
 use Rattle.switch.specs.Allowed.{used_pair}
 use Rattle.switch.specs.Making.{capacity_of_pair}
 use Rattle.switch.proofs.make.pair_capacities.Given as goal

@@ -1,8 +1,7 @@
 -- `switch::make::pair_capacity` meets its contract.
 -- Assumes nothing.
-use borrow.Author.Rules.{rules}
 use native.Mathlib.Omega.{arith}
-use mathlib.Core.Path.{◌≡◌, refl, sym, ◌∙◌, ap}
+use mathlib.Core.Path.{sym, ◌∙◌}
 use Prim.Native.Nat.{ℕ, ◌≤◌, ◌/◌}
 use native.Mathlib.Nat.{mul-le-mul}
 use Rattle.switch.specs.Making.{capacity_of_pair}

@@ -1,8 +1,7 @@
 -- `trace_write::lent::byte` meets its contract.
 -- Assumes nothing.
-use borrow.Author.Rules.{rules}
 use native.Mathlib.Omega.{arith}
-use mathlib.Core.Path.{◌≡◌, refl, sym, ◌∙◌, ap}
+use mathlib.Core.Path.{sym}
 use lib.ListN.{get_or-eq_default}
 use Rattle.trace_write.proofs.lent.byte.Goals as goal
 

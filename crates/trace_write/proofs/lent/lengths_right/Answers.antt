@@ -1,7 +1,6 @@
 -- `trace_write::lent::lengths_right` meets its contract.
 -- Assumes nothing.
-use borrow.Author.Rules.{rules}
-use mathlib.Core.Path.{◌≡◌, refl, sym, ◌∙◌, ap}
+use mathlib.Core.Path.{ap}
 use lib.ListN.{length}
 use lib.Dec.{eqb}
 use Rattle.base.proofs.Below.{joined}

@@ -1,16 +1,12 @@
 -- `trace_write::lent::ports_below` meets its contract. The invariant: each port passed is below n.
 -- Assumes nothing.
-use borrow.Author.Rules.{rules}
-use native.Mathlib.Omega.{arith}
-use mathlib.Core.Path.{◌≡◌, refl, sym, ◌∙◌, ap}
-use Prim.Native.Nat.{ℕ, ◌+◌, ◌*◌, ◌-◌, ◌≤◌}
-use mathlib.Core.Bool.{Bool, true, false}
+use mathlib.Core.Path.{◌≡◌}
+use Prim.Native.Nat.{ℕ, ◌-◌, ◌≤◌}
+use mathlib.Core.Bool.{Bool, true}
 use mathlib.Core.List.{List}
 use lib.ListN.{get_or}
 use lib.Dec.{ltb}
-use borrow.Author.Tests.{lt-ltb, le-ltb}
 use Rattle.base.specs.Below.{all_below}
-use Rattle.base.proofs.Below.{all_none, all_more, all_fails, all_done}
 use Rattle.trace_write.proofs.lent.ports_below.Given as goal
 
 -- the test that each port has to pass

@@ -1,6 +1,5 @@
 -- `trace_write::lent::refusal` meets its contract.
 -- Assumes nothing.
-use borrow.Author.Rules.{rules}
 use Rattle.trace_write.proofs.WritingLaws.{body_chained}
 use Rattle.trace_write.proofs.lent.refusal.Goals as goal
 

@@ -1,11 +1,6 @@
 use borrow.Author.Rules.{rules}
 use native.Mathlib.Omega.{arith}
-use mathlib.Core.Path.{◌≡◌, refl, sym, ◌∙◌, ap}
-use Prim.Native.Nat.{ℕ, ◌+◌, ◌*◌, ◌-◌, ◌≤◌}
-use mathlib.Core.Bool.{Bool, true, false}
-use mathlib.Core.List.{List}
-use lib.ListN.{get_or}
-use Rattle.base.specs.Below.{sum_below}
+use mathlib.Core.Path.{sym}
 use Rattle.base.proofs.Below.{sum_none, sum_more, sum_done}
 use Rattle.trace_write.proofs.lent.sum.Invariants.{count}
 use Rattle.trace_write.proofs.lent.sum.Goals as goal

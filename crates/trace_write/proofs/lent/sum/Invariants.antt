@@ -1,14 +1,10 @@
 -- `trace_write::lent::sum` meets its contract. The invariant: the sum so far, at most 65,535 for each slot passed.
 -- Assumes nothing.
-use borrow.Author.Rules.{rules}
-use native.Mathlib.Omega.{arith}
-use mathlib.Core.Path.{◌≡◌, refl, sym, ◌∙◌, ap}
-use Prim.Native.Nat.{ℕ, ◌+◌, ◌*◌, ◌-◌, ◌≤◌}
-use mathlib.Core.Bool.{Bool, true, false}
+use mathlib.Core.Path.{◌≡◌}
+use Prim.Native.Nat.{ℕ, ◌*◌, ◌-◌, ◌≤◌}
 use mathlib.Core.List.{List}
 use lib.ListN.{get_or}
 use Rattle.base.specs.Below.{sum_below}
-use Rattle.base.proofs.Below.{sum_none, sum_more, sum_done}
 use Rattle.trace_write.proofs.lent.sum.Given as goal
 
 abbrev pub count : List ℕ → ℕ → ℕ

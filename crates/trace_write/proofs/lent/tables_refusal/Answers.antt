@@ -1,8 +1,7 @@
 -- `trace_write::lent::tables_refusal` meets its contract.
 -- Assumes nothing.
-use borrow.Author.Rules.{rules}
 use native.Mathlib.Omega.{arith}
-use mathlib.Core.Path.{◌≡◌, refl, sym, ◌∙◌, ap}
+use mathlib.Core.Path.{◌∙◌, ap}
 use Prim.Native.Nat.{ℕ}
 use lib.ListN.{get_or}
 use lib.Dec.{eqb}

@@ -1,8 +1,6 @@
 -- `trace_write::put::byte` meets its contract: a store, and none past the end.
 -- Assumes nothing.
-use borrow.Author.Rules.{rules}
-use mathlib.Core.Path.{◌≡◌, refl, sym, ◌∙◌, ap}
-use native.Mathlib.Omega.{arith}
+use mathlib.Core.Path.{sym}
 use lib.Seq.{set_out}
 use Rattle.trace_write.proofs.put.byte.Goals as goal
 

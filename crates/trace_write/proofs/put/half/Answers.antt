@@ -1,7 +1,6 @@
 -- `trace_write::put::half` meets its contract.
 -- Assumes nothing.
-use borrow.Author.Rules.{rules}
-use mathlib.Core.Path.{◌≡◌, refl, sym, ◌∙◌, ap}
+use mathlib.Core.Path.{◌∙◌, ap}
 use native.Mathlib.Numerals.{add-one}
 use Prim.Native.Nat.{ℕ, ◌+◌, ◌/◌, ◌%◌}
 use mathlib.Core.List.{List}

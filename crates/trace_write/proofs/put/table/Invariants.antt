@@ -1,14 +1,10 @@
 -- `trace_write::put::table` meets its contract. The invariant: what was passed is stored.
 -- Assumes nothing.
-use borrow.Author.Rules.{rules}
-use native.Mathlib.Omega.{arith}
-use mathlib.Core.Path.{◌≡◌, refl, sym, ◌∙◌, ap}
-use Prim.Native.Nat.{ℕ, ◌+◌, ◌*◌, ◌-◌, ◌≤◌}
-use mathlib.Core.List.{List}
-use lib.ListN.{length, take, get_or, set}
-use lib.Seq.{sets, length-sets, take_all}
-use Rattle.base.specs.Digits.{spell, digits}
-use Rattle.base.proofs.Digits.{table_more}
+use mathlib.Core.Path.{◌≡◌}
+use Prim.Native.Nat.{◌-◌, ◌≤◌}
+use lib.ListN.{length, take}
+use lib.Seq.{sets}
+use Rattle.base.specs.Digits.{spell}
 use Rattle.trace_write.proofs.put.table.Given as goal
 
 abbrev pub invariant-loop-k : goal.invariant-loop-k

@@ -1,7 +1,6 @@
 -- `trace_write::put::word` meets its contract: 32 bits are two times 16.
 -- Assumes nothing.
-use borrow.Author.Rules.{rules}
-use mathlib.Core.Path.{◌≡◌, refl, sym, ◌∙◌, ap}
+use mathlib.Core.Path.{sym, ◌∙◌, ap}
 use Prim.Native.Nat.{ℕ, ◌+◌, ◌/◌}
 use mathlib.Core.List.{List}
 use lib.Seq.{sets}
