@@ -1,13 +1,8 @@
 -- `image::outputs` meets its contract. The invariant: each place passed is as it should be.
 -- Assumes nothing.
-use borrow.Author.Rules.{rules}
-use native.Mathlib.Omega.{arith}
-use mathlib.Core.Path.{◌≡◌, refl}
+use mathlib.Core.Path.{◌≡◌}
 use Prim.Native.Nat.{ℕ, ◌+◌, ◌-◌, ◌≤◌, ◌<◌}
-use native.Mathlib.Nat.{not-suc-le-zero}
 use lib.ListN.{length, get_or}
-use Rattle.base.proofs.Listed.{fill_more, fill_done}
-use Rattle.image.specs.Image.{words}
 use Rattle.image.proofs.outputs.Given as goal
 
 abbrev pub invariant-loop-k : goal.invariant-loop-k

@@ -1,9 +1,9 @@
 use borrow.Author.Rules.{rules}
 use native.Mathlib.Omega.{arith}
-use mathlib.Core.Path.{◌≡◌, refl}
-use Prim.Native.Nat.{ℕ, ◌+◌, ◌-◌, ◌≤◌, ◌<◌}
+use mathlib.Core.Path.{refl}
+use Prim.Native.Nat.{◌+◌}
 use native.Mathlib.Nat.{not-suc-le-zero}
-use lib.ListN.{length, get_or}
+use lib.ListN.{get_or}
 use Rattle.base.proofs.Listed.{fill_more, fill_done}
 use Rattle.image.specs.Image.{words}
 use Rattle.image.proofs.pairs.Goals as goal

@@ -1,9 +1,9 @@
 use borrow.Author.Rules.{rules}
 use native.Mathlib.Omega.{arith}
-use mathlib.Core.Path.{◌≡◌, refl, sym, ◌∙◌, ap}
-use Prim.Native.Nat.{ℕ, ◌+◌, ◌-◌, ◌≤◌}
+use mathlib.Core.Path.{refl, sym, ◌∙◌, ap}
+use Prim.Native.Nat.{ℕ, ◌+◌}
 use mathlib.Core.List.{List}
-use lib.ListN.{length, take, get_or, set}
+use lib.ListN.{length, get_or, set}
 use lib.Seq.{sets, length-sets, take_all}
 use Rattle.base.proofs.Sets.{sets_more}
 use Rattle.image.proofs.put.Goals as goal

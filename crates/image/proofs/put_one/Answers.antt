@@ -1,6 +1,5 @@
 -- `image::put_one` meets its contract.
 -- Assumes nothing.
-use borrow.Author.Rules.{rules}
 use mathlib.Core.Path.{sym}
 use lib.Seq.{set_out}
 use Rattle.image.proofs.put_one.Goals as goal

@@ -1,6 +1,5 @@
 -- `image::put_switch` meets its contract: the ten numbers and then the queues.
 -- Assumes nothing.
-use borrow.Author.Rules.{rules}
 use Rattle.image.specs.Image.{numbers_of}
 use Rattle.image.proofs.ImageLaws.{image_stored}
 use Rattle.image.proofs.put_switch.Goals as goal

@@ -1,6 +1,5 @@
 -- `image::queues_of` meets its contract.
 -- Assumes nothing.
-use borrow.Author.Rules.{rules}
 use Rattle.image.proofs.ImageLaws.{queues_read}
 use Rattle.image.proofs.queues_of.Goals as goal
 

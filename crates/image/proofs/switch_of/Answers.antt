@@ -1,6 +1,5 @@
 -- `image::switch_of` meets its contract.
 -- Assumes nothing.
-use borrow.Author.Rules.{rules}
 use Rattle.image.proofs.ImageLaws.{switch_read}
 use Rattle.image.proofs.switch_of.Goals as goal
 

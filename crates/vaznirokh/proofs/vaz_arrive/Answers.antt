@@ -1,6 +1,5 @@
 -- `vaznirokh::vaz_arrive` meets its contract: the lengths decide, and then the arrival.
 -- Assumes nothing.
-use borrow.Author.Rules.{rules}
 use Rattle.vaznirokh.specs.Library.{vaz_arrive, vaz_arrive_state, vaz_arrive_answer}
 use Rattle.vaznirokh.proofs.LibraryLaws.{both_right, stopped, untouched, went_on, filled}
 use Rattle.vaznirokh.proofs.vaz_arrive.Goals as goal

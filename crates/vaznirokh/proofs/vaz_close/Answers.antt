@@ -1,6 +1,5 @@
 -- `vaznirokh::vaz_close` meets its contract: the length decides, and then the closing.
 -- Assumes nothing.
-use borrow.Author.Rules.{rules}
 use mathlib.Core.Path.{sym, ◌∙◌}
 use Rattle.vaznirokh.specs.Library.{vaz_close, vaz_close_state}
 use Rattle.vaznirokh.proofs.LibraryLaws.{right_length, stopped, untouched, went_on, filled}
@@ -10,7 +9,7 @@ pub returns-then-n-ne0 : goal.returns-then-n-ne0
 unfolding vaz_close vaz_close_state
 returns-then-n-ne0 c =
     let e = c.length_number-n.ensures in
-    record { value = stopped _ _ _ e c.if-n-ne0.true; state_after = untouched _ _ _ _ _ e c.if-n-ne0.true; }
+    record { value = stopped _ _ _ e c.if-n-ne0.true; state_after = untouched _ _ _ _ _ e c.if-n-ne0.true }
 
 pub close-requires : goal.close-requires
 close-requires c = right_length 1066 c.args.state.now (sym c.length_number-n.ensures ∙ c.if-n-ne0.false)
@@ -21,4 +20,4 @@ returns c =
     let e = c.length_number-n.ensures in
     let z = c.if-n-ne0.false in
     let w = c.close.ensures in
-    record { value = went_on _ _ _ _ e z w.value; state_after = filled _ _ _ _ _ _ _ e z w.value w.state_after; }
+    record { value = went_on _ _ _ _ e z w.value; state_after = filled _ _ _ _ _ _ _ e z w.value w.state_after }

@@ -1,6 +1,5 @@
 -- `vaznirokh::vaz_drain` meets its contract: the lengths decide, and then the drain.
 -- Assumes nothing.
-use borrow.Author.Rules.{rules}
 use Rattle.vaznirokh.specs.Library.{vaz_drain, vaz_drain_state, vaz_drain_answer}
 use Rattle.vaznirokh.proofs.LibraryLaws.{both_right, stopped, untouched, went_on, filled}
 use Rattle.vaznirokh.proofs.vaz_drain.Goals as goal

@@ -1,6 +1,5 @@
 -- `vaznirokh::vaz_examine` meets its contract.
 -- Assumes nothing.
-use borrow.Author.Rules.{rules}
 use mathlib.Core.Path.{◌∙◌, ap}
 use Rattle.trace.specs.Reading.{refusal_of}
 use Rattle.vaznirokh.specs.Library.{vaz_examine}

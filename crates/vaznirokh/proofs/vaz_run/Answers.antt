@@ -1,6 +1,5 @@
 -- `vaznirokh::vaz_run` meets its contract: the length decides, and then the run.
 -- Assumes nothing.
-use borrow.Author.Rules.{rules}
 use mathlib.Core.Path.{sym, ◌∙◌}
 use Rattle.vaznirokh.specs.Library.{vaz_run, vaz_run_log, vaz_run_counts}
 use Rattle.vaznirokh.proofs.LibraryLaws.{right_length, stopped, untouched, went_on, filled, log_filled}

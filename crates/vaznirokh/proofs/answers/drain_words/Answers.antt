@@ -1,6 +1,5 @@
 -- `vaznirokh::answers::drain_words` meets its contract, case by case.
 -- Assumes nothing.
-use borrow.Author.Rules.{rules}
 use mathlib.Core.Path.{sym, ap}
 use Rattle.vaznirokh.specs.Library.{drain_number, drain_word, drain_quiet}
 use Rattle.vaznirokh.proofs.answers.drain_words.Goals as goal

@@ -1,6 +1,5 @@
 -- `vaznirokh::answers::taken_words` meets its contract, case by case.
 -- Assumes nothing.
-use borrow.Author.Rules.{rules}
 use mathlib.Core.Path.{sym, ap}
 use Rattle.vaznirokh.specs.Library.{taken_number, taken_word}
 use Rattle.vaznirokh.proofs.answers.taken_words.Goals as goal

@@ -1,6 +1,5 @@
 -- `vaznirokh::answers::verdict_number` meets its contract, case by case.
 -- Assumes nothing.
-use borrow.Author.Rules.{rules}
 use mathlib.Core.Path.{sym, ap}
 use Rattle.trace.specs.Reading.{refusal_of}
 use Rattle.vaznirokh.proofs.answers.verdict_number.Goals as goal

@@ -1,6 +1,5 @@
 -- `vaznirokh::answers::written_number` meets its contract, case by case.
 -- Assumes nothing.
-use borrow.Author.Rules.{rules}
 use mathlib.Core.Path.{sym, ap}
 use Rattle.vaznirokh.specs.Library.{written_number}
 use Rattle.vaznirokh.proofs.answers.written_number.Goals as goal

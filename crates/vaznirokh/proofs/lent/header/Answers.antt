@@ -1,6 +1,5 @@
 -- `vaznirokh::lent::header` meets its contract.
 -- Assumes nothing.
-use borrow.Author.Rules.{rules}
 use Rattle.vaznirokh.proofs.LibraryLaws.{header_read}
 use Rattle.vaznirokh.proofs.lent.header.Goals as goal
 

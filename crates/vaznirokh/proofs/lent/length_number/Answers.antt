@@ -1,6 +1,5 @@
 -- `vaznirokh::lent::length_number` meets its contract.
 -- Assumes nothing.
-use borrow.Author.Rules.{rules}
 use Rattle.vaznirokh.specs.Library.{length_number}
 use Rattle.vaznirokh.proofs.lent.length_number.Goals as goal
 

@@ -1,6 +1,5 @@
 -- `vaznirokh::lent::lengths_number` meets its contract.
 -- Assumes nothing.
-use borrow.Author.Rules.{rules}
 use mathlib.Core.Path.{◌∙◌, ap₂}
 use Rattle.base.specs.Refusal.{◌⨟◌}
 use Rattle.vaznirokh.proofs.lent.lengths_number.Goals as goal

@@ -1,6 +1,5 @@
 -- `vaznirokh::lent::run` meets its contract.
 -- Assumes nothing.
-use borrow.Author.Rules.{rules}
 use mathlib.Core.Path.{sym, ap, ◌∙◌}
 use Rattle.run.specs.declared.Ran.{Ran}
 use Rattle.vaznirokh.specs.Library.{settled, count_words}
