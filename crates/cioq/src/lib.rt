@@ -28,6 +28,7 @@ fn place(i: u32, j: usize) -> usize
 }
 
 // Whether input i may take output j now: a packet waits, there is room for it, and no earlier input took the output.
+#[tactic(auto, using(crate::proofs::VisitLaws::may_by_flag, crate::proofs::VisitLaws::may_not_full, crate::proofs::VisitLaws::may_not_empty))]
 fn may_take(
     i: u32,
     j: usize,
