@@ -5,6 +5,8 @@ ghost use Rattle.std.specs.Prelude.{◌≡◌, ◌≤◌};
 ghost use Rattle.text.specs.Text.{Written};
 ghost use Rattle.refusal_text.specs.Refusals.{words, refusal_line};
 
+use std::io::Write;
+
 // Given exactly when. A few at a time: each text in a function makes all of its proof longer.
 fn first_words(page: &mut [u8], at: usize, n: u32) -> usize
     requires { (1 ≤ n) × (n ≤ 4) }
@@ -84,12 +86,12 @@ pub fn refusal_line(page: &mut [u8], at: usize, n: u32) -> usize
     text::put(page, behind_words, b"\n")
 }
 
-// Writes the line of refusal n to standard error, and hands n on.
-pub fn told(n: u32) -> u32
+// Writes the line of refusal n, as to standard error, and hands n on, also where the write fails.
+pub fn told(error: &mut impl Write, n: u32) -> u32
     ensures { result ≡ n }
 {
     let mut page = [0u8; 256];
     let k = refusal_line(&mut page, 0, n);
-    io::write_all(2, &page[..k]);
+    let _ = error.write_all(&page[..k]);
     n
 }
