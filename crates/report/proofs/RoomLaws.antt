@@ -1,11 +1,11 @@
 -- The page that `main` lends has room for any report: what is written of it is the whole report.
 -- Assumes nothing.
-use Prim.Native.Nat.{ℕ, zero, suc, ◌+◌, ◌≤◌}
+use Prim.Native.Nat.{ℕ, zero, suc, ◌≤◌}
 use native.Mathlib.Omega.{arith}
-use mathlib.Core.Path.{◌≡◌, refl, sym}
-use mathlib.Core.List.{List, ◌++◌}
+use mathlib.Core.Path.{◌≡◌, refl}
+use mathlib.Core.List.{List}
 use lib.ListN.{length, take}
-use Rattle.text.specs.Text.{Written, ascii, line}
+use Rattle.text.specs.Text.{Written, ascii}
 use Rattle.text.proofs.RoomLaws.{Room, room_more, room_then, room_written, room_line, stands}
 use Rattle.trace.specs.Reading.{reading}
 use Rattle.switch.specs.declared.Switch.{Switch}

@@ -4,19 +4,21 @@
 
 mod report; // report.rt: the text
 
+use std::io::Write;
 use trace::Verdict;
 
-fn main() {
+// What cannot be written is left out.
+fn main(rt: HostRuntime) {
     let mut buffer = [0u8; 17481];
-    let n = io::read_full(0, &mut buffer);
+    let n = input::fill(&mut rt.stdin(), &mut buffer);
     let trace = &buffer[..n];
     let mut page = [0u8; 512];
     let length = report::report(trace, &mut page);
-    io::write_all(1, &page[..length]);
+    let _ = rt.stdout().write_all(&page[..length]);
     match trace::examine(trace) {
         Verdict::Accepted(_) => {}
         Verdict::Refused(n) => {
-            refusal_text::told(n);
+            refusal_text::told(&mut rt.stderr(), n);
         }
     }
 }

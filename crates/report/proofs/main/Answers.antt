@@ -1,0 +1,10 @@
+-- `report::main` meets its contract.
+-- Assumes nothing.
+use Rattle.text.proofs.WrittenLaws.{counted}
+use Rattle.report.proofs.main.Goals as goal
+
+pub slice_bounds-page-end : goal.slice_bounds-page-end
+slice_bounds-page-end c = (counted c.report-length.ensures).0
+
+pub slice_bounds-write_all-end : goal.slice_bounds-write_all-end
+slice_bounds-write_all-end c = (counted c.report-length.ensures).1
