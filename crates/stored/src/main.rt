@@ -97,10 +97,9 @@ fn more(n: u32) -> u32 {
     n
 }
 
-fn line(name: &[u8], n: u32) {
-    io::write_all(1, name);
-    io::print_decimal(1, n as u64);
-    io::write_all(1, b"\n");
+// What cannot be written is left out.
+fn line(rt: &impl Print, name: &str, n: u32) {
+    let _ = println!(rt; "{name} {n}");
 }
 
 #[derive(Clone, Copy)]
@@ -133,10 +132,10 @@ fn compare_all(all: &[u8]) -> Tally
     tally
 }
 
-fn main() {
+fn main(rt: HostRuntime) {
     let mut buffer = [0u8; 262144];
-    let n = io::read_full(0, &mut buffer);
+    let n = input::fill(&mut rt.stdin(), &mut buffer);
     let tally = compare_all(&buffer[..n]);
-    line(b"traces ", tally.traces);
-    line(b"differ ", tally.differ);
+    line(&rt, "traces", tally.traces);
+    line(&rt, "differ", tally.differ);
 }
