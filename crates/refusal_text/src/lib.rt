@@ -1,10 +1,12 @@
 // A trace's refusal for a person: its number with the words of document 01's table, as a line on a lent page.
 #![tactic(auto)]
 
-ghost use Rattle.std.specs.Prelude.{◌≡◌, ◌≤◌};
+ghost use Rattle.std.specs.Prelude.{◌≡◌, ◌≤◌, OnOk};
+ghost use Rattle.std.specs.Io.KnownBytes.{Appends};
 ghost use Rattle.text.specs.Text.{Written};
 ghost use Rattle.refusal_text.specs.Refusals.{words, refusal_line};
 
+use std::io;
 use std::io::Write;
 
 // Given exactly when. A few at a time: each text in a function makes all of its proof longer.
@@ -86,12 +88,19 @@ pub fn refusal_line(page: &mut [u8], at: usize, n: u32) -> usize
     text::put(page, behind_words, b"\n")
 }
 
+// Writes the line of refusal n.
+fn tell<W: Write>(error: &mut W, n: u32) -> io::Result<()>
+    ensures { OnOk result (Appends (W.contents error.old) (W.contents error.new) (refusal_line n)) }
+{
+    let mut page = [0u8; 256];
+    let k = refusal_line(&mut page, 0, n);
+    error.write_all(&page[..k])
+}
+
 // Writes the line of refusal n, as to standard error, and hands n on, also where the write fails.
 pub fn told(error: &mut impl Write, n: u32) -> u32
     ensures { result ≡ n }
 {
-    let mut page = [0u8; 256];
-    let k = refusal_line(&mut page, 0, n);
-    let _ = error.write_all(&page[..k]);
+    let _ = tell(error, n);
     n
 }
