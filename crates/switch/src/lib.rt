@@ -138,7 +138,8 @@ fn take(s: Switch, input: u32, output: u32) -> Arrived
     let incap = q.incap;
     let mut next = s;
     next.arrived = s.arrived + 1;
-    if queues::has_room(&incap, &inlen, k) {
+    let room = queues::has_room(&incap, &inlen, k);
+    if room {
         next.queues = joined(q, k);
         return Arrived {
             answer: Taken::Accepted,

@@ -15,12 +15,12 @@ overflow_add-next c = omega (arith, (more_may_arrive c.args.s c.args.input c.arg
 
 pub joined-next-requires : goal.joined-next-requires
 unfolding has_room
-joined-next-requires c = ltb-true _ _ (sym c.has_room.ensures ∙ c.if-has_room.true)
+joined-next-requires c = ltb-true _ _ (sym c.has_room-room.ensures ∙ c.if-room.true)
 
-pub returns-then-has_room : goal.returns-then-has_room
+pub returns-then-room : goal.returns-then-room
 unfolding place
-returns-then-has_room c = let a = c.args in
-    accepted_answer a.s a.input a.output _ (sym c.has_room.ensures ∙ c.if-has_room.true)
+returns-then-room c = let a = c.args in
+    accepted_answer a.s a.input a.output _ (sym c.has_room-room.ensures ∙ c.if-room.true)
     (ap (λ (q : Queues). taken a.s (a.s.arrived + 1) a.s.dropped q) c.joined-next.ensures)
 
 pub overflow_add-next-2 : goal.overflow_add-next-2
@@ -30,4 +30,4 @@ overflow_add-next-2 c = let m = more_may_arrive c.args.s c.args.input c.args.out
 pub returns : goal.returns
 unfolding place
 returns c = let a = c.args in
-    dropped_answer a.s a.input a.output _ (sym c.has_room.ensures ∙ c.if-has_room.false) refl
+    dropped_answer a.s a.input a.output _ (sym c.has_room-room.ensures ∙ c.if-room.false) refl
