@@ -15,7 +15,7 @@ fn refuse(rt: &HostRuntime, n: u32) {
 
 fn main(rt: HostRuntime) {
     let mut buffer = [0u8; 17481];
-    let n = input::fill(&mut rt.stdin(), &mut buffer);
+    let (n, _) = input::fill(&mut rt.stdin(), &mut buffer);
     let trace = &buffer[..n];
     let mut log = [0u32; 16384];
     let ran = run::run(trace, &mut log);

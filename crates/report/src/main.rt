@@ -4,12 +4,12 @@
 
 mod report; // report.rt: the text
 
-ghost use Rattle.std.specs.Prelude.{OnOk};
+ghost use Rattle.std.specs.Prelude.{OnOk, IfSome};
 ghost use Rattle.std.specs.Io.KnownBytes.{Appends};
 ghost use Rattle.report.specs.Report.{report_of};
 
 use std::io;
-use std::io::Write;
+use std::io::{Read, Write};
 use trace::Verdict;
 
 // The report on a trace, in one write.
@@ -21,16 +21,34 @@ fn print_report<W: Write>(out: &mut W, trace: &[u8]) -> io::Result<()>
     out.write_all(&page[..length])
 }
 
-// What cannot be written is left out.
-fn main(rt: HostRuntime) {
-    let mut buffer = [0u8; 17481];
-    let n = input::fill(&mut rt.stdin(), &mut buffer);
-    let trace = &buffer[..n];
-    let _ = print_report(&mut rt.stdout(), trace);
+// The words of a refused trace's refusal.
+fn tell<E: Write>(error: &mut E, trace: &[u8]) {
     match trace::examine(trace) {
         Verdict::Accepted(_) => {}
         Verdict::Refused(n) => {
-            refusal_text::told(&mut rt.stderr(), n);
+            refusal_text::told(error, n);
         }
     }
+}
+
+// The report on the trace that is read, and of a refused one its words. What could be read is reported on also where a read failed, and told also where a write failed.
+fn report_all<R: Read, W: Write, E: Write>(
+    reader: &mut R,
+    out: &mut W,
+    error: &mut E,
+) -> io::Result<()>
+    ensures { OnOk result (IfSome (R.remaining reader.old) (λ s. Appends (W.contents out.old) (W.contents out.new) (report_of s))) }
+{
+    let mut buffer = [0u8; 17481];
+    let (n, read) = input::fill(reader, &mut buffer);
+    let trace = &buffer[..n];
+    let written = print_report(out, trace);
+    tell(error, trace);
+    read?;
+    written
+}
+
+// What cannot be read or written is left out.
+fn main(rt: HostRuntime) {
+    let _ = report_all(&mut rt.stdin(), &mut rt.stdout(), &mut rt.stderr());
 }

@@ -134,7 +134,7 @@ fn compare_all(all: &[u8]) -> Tally
 
 fn main(rt: HostRuntime) {
     let mut buffer = [0u8; 262144];
-    let n = input::fill(&mut rt.stdin(), &mut buffer);
+    let (n, _) = input::fill(&mut rt.stdin(), &mut buffer);
     let tally = compare_all(&buffer[..n]);
     line(&rt, "traces", tally.traces);
     line(&rt, "differ", tally.differ);
