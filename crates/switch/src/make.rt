@@ -62,7 +62,8 @@ fn crosspoint_capacities(trace: &[u8], model: u32, ports: u32) -> [u32; 256]
     ensures { result ≡ crosspoint_capacities trace.now model ports }
 {
     let n = ports as usize;
-    if model == 2 {
+    let crossbar = model == 2;
+    if crossbar {
         return pair_capacities(trace, ports, n * n + n);
     }
     [0u32; 256]

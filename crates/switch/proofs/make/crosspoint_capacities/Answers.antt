@@ -17,10 +17,10 @@ overflow_add-n c = omega (arith, mul-le-mul c.requires c.requires)
 pub pair_capacities-requires : goal.pair_capacities-requires
 pair_capacities-requires c = (c.requires, omega (arith, mul-le-mul c.requires c.requires))
 
-pub returns-then-model-eq2 : goal.returns-then-model-eq2
+pub returns-then-crossbar : goal.returns-then-crossbar
 unfolding has_crosspoints
-returns-then-model-eq2 c = c.pair_capacities.ensures ∙ sym (with_crosspoints c.args.trace.now c.args.model c.args.ports (eq-eqb _ _ c.if-model-eq2.true))
+returns-then-crossbar c = c.pair_capacities.ensures ∙ sym (with_crosspoints c.args.trace.now c.args.model c.args.ports (eq-eqb _ _ c.if-crossbar.true))
 
 pub returns : goal.returns
 unfolding has_crosspoints
-returns c = sym (without_crosspoints c.args.trace.now c.args.model c.args.ports (ne_eqb _ _ c.if-model-eq2.false))
+returns c = sym (without_crosspoints c.args.trace.now c.args.model c.args.ports (ne_eqb _ _ c.if-crossbar.false))
