@@ -16,7 +16,7 @@ use Rattle.queues.specs.Turn.{rotates, first_of, turn}
 use Rattle.queues.specs.Flow.{still, flowed}
 use Rattle.queues.specs.Cioq.{eligible, is_taken, choice, visited, visits, matching}
 use Rattle.queues.specs.Crossbar.{crossing, crossed_one, crossings, input_part, outmover, outmoved_one, outmoves, output_part}
-use Rattle.queues.specs.Slot.{begun, after, arrival_of as queues-arrivalOf, arrival, matched, cioq_cycle, crossed_over, outmoved_over, crossbar_cycle, cycle_of, cycles, sent_one, sendings, free, send_over, closing}
+use Rattle.queues.specs.Slot.{begun, after, arrival_of as queues_arrival_of, arrival, matched, cioq_cycle, crossed_over, outmoved_over, crossbar_cycle, cycle_of, cycles, sent_one, sendings, free, send_over, closing}
 use Rattle.switch.specs.Switch.{packets, held_in, held_out, held_cross, held_all, held, outmoved_kind, advanced}
 use Rattle.switch.specs.Allowed.{used_pair, queue_allowed, queues_allowed, counts_agree, switch_allowed}
 use Rattle.switch.specs.Steps.{close_step}
@@ -27,5 +27,5 @@ use Rattle.loss.specs.Loss.{per_thousand}
 use Rattle.cases.specs.Cases.{Row, find, table}
 
 pub cases_hold : map (λ (r : Row). find r.file r.room r.limit) table ≡ map (λ (r : Row). r.found) table
-unfolding find table all_below sum_below list_below lowest_from lowest number unless ◌⨟◌ model_allowed order_allowed side_allowed count_allowed header_refusal has_crosspoints capacity_count slot_counts_at arrivals_at total_of places_of capacity_allowed capacities_allowed counts_add_up ports_below tables_refusal header_of capacity slot_count port_byte places_right body_refusal reading arrival_of before place waits has_room more fewer lengths word log_of accepted_at dropped_at crossed_at outmoved_at sent_at of_kind rotates first_of turn still flowed eligible is_taken choice visited visits matching crossing crossed_one crossings input_part outmover outmoved_one outmoves output_part begun after queues-arrivalOf arrival matched cioq_cycle crossed_over outmoved_over crossbar_cycle cycle_of cycles sent_one sendings free send_over closing packets held_in held_out held_cross held_all held outmoved_kind advanced used_pair queue_allowed queues_allowed counts_agree switch_allowed close_step drain_refusal closings quiet drained_as drain_answer drain capacity_of_pair input_capacities output_capacities crosspoint_capacities empty_queues unused fresh grown arriving arrivals closed slots whole words_each room_needed running counts_of no_counts ran_as log_as ran ran_log per_thousand
+unfolding find table all_below sum_below list_below lowest_from lowest number unless ◌⨟◌ model_allowed order_allowed side_allowed count_allowed header_refusal has_crosspoints capacity_count slot_counts_at arrivals_at total_of places_of capacity_allowed capacities_allowed counts_add_up ports_below tables_refusal header_of capacity slot_count port_byte places_right body_refusal reading arrival_of before place waits has_room more fewer lengths word log_of accepted_at dropped_at crossed_at outmoved_at sent_at of_kind rotates first_of turn still flowed eligible is_taken choice visited visits matching crossing crossed_one crossings input_part outmover outmoved_one outmoves output_part begun after queues_arrival_of arrival matched cioq_cycle crossed_over outmoved_over crossbar_cycle cycle_of cycles sent_one sendings free send_over closing packets held_in held_out held_cross held_all held outmoved_kind advanced used_pair queue_allowed queues_allowed counts_agree switch_allowed close_step drain_refusal closings quiet drained_as drain_answer drain capacity_of_pair input_capacities output_capacities crosspoint_capacities empty_queues unused fresh grown arriving arrivals closed slots whole words_each room_needed running counts_of no_counts ran_as log_as ran ran_log per_thousand
 cases_hold = refl

@@ -18,7 +18,7 @@ use Rattle.queues.specs.Events.{accepted_at, dropped_at, crossed_at, sent_at, of
 use Rattle.queues.specs.Turn.{rotates, first_of, turn}
 use Rattle.queues.specs.Flow.{still, flowed}
 use Rattle.queues.specs.Cioq.{eligible, is_taken, choice, visited, visits, matching}
-use Rattle.queues.specs.Slot.{begun, after, arrival_of as queues-arrivalOf, arrival, matched, cioq_cycle, cycle_of, cycles, sent_one, sendings, free, send_over, closing}
+use Rattle.queues.specs.Slot.{begun, after, arrival_of as queues_arrival_of, arrival, matched, cioq_cycle, cycle_of, cycles, sent_one, sendings, free, send_over, closing}
 use Rattle.switch.specs.Switch.{packets, held_out, outmoved_kind, advanced}
 use Rattle.switch.specs.Allowed.{used_pair}
 use Rattle.switch.specs.Making.{capacity_of_pair, input_capacities, output_capacities, crosspoint_capacities, empty_queues, unused, fresh}
@@ -36,7 +36,7 @@ c7_accepted = (refl, refl, refl)
 
 -- the run sends 1 and leaves three in its output queues: the limit is 9
 pub c7_numbers : ((whole c7).switch.sent ≡ 1) × (held_out (whole c7).switch.queues ≡ 3) × (limit_of (whole c7).switch ≡ 9)
-unfolding c7 sum_below list_below lowest_from lowest number has_crosspoints header_of capacity slot_count port_byte arrival_of before place waits has_room more fewer lengths accepted_at dropped_at crossed_at sent_at of_kind rotates first_of turn still flowed eligible is_taken choice visited visits matching begun after queues-arrivalOf arrival matched cioq_cycle cycle_of cycles sent_one sendings free send_over closing packets held_out outmoved_kind advanced used_pair capacity_of_pair input_capacities output_capacities crosspoint_capacities empty_queues unused fresh grown arriving arrivals closed slots whole limit_of
+unfolding c7 sum_below list_below lowest_from lowest number has_crosspoints header_of capacity slot_count port_byte arrival_of before place waits has_room more fewer lengths accepted_at dropped_at crossed_at sent_at of_kind rotates first_of turn still flowed eligible is_taken choice visited visits matching begun after queues_arrival_of arrival matched cioq_cycle cycle_of cycles sent_one sendings free send_over closing packets held_out outmoved_kind advanced used_pair capacity_of_pair input_capacities output_capacities crosspoint_capacities empty_queues unused fresh grown arriving arrivals closed slots whole limit_of
 c7_numbers = (refl, refl, refl)
 
 -- C7's rival can play here

@@ -22,10 +22,10 @@ count_lines w =
 
 -- the counts as at the trace's end, the loss, and the quiet slots of a drain
 unfoldable pub totals : Switch → ℕ → List ℕ
-totals w quietSlots =
+totals w quiet_slots =
     count_lines w
     ++ line (ascii "per-thousand") (per_thousand w.dropped w.arrived)
-    ++ line (ascii "quiet") quietSlots
+    ++ line (ascii "quiet") quiet_slots
 
 -- an accepted trace, or its refusal; the drain's limit is 4,096
 unfoldable pub report_as : ℕ → List ℕ → List ℕ

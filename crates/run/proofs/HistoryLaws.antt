@@ -34,7 +34,7 @@ use Rattle.switch.proofs.QueuesKept.{both}
 use Rattle.switch.proofs.KeepsLaws.{never_above, arrive_keeps, close_keeps}
 use Rattle.switch.proofs.ClosingLaws.{closed_counts}
 use Rattle.switch.proofs.FreshLaws.{fresh_allowed}
-use Rattle.run.specs.Run.{History, grown, arriving, arrivals, closed, slots, whole as wholeRun}
+use Rattle.run.specs.Run.{History, grown, arriving, arrivals, closed, slots, whole as whole_run}
 
 -- the counts before a slot
 module _ (s : List ℕ) where
@@ -170,8 +170,8 @@ module _ (s : List ℕ) (r : reading s ≡ 0) where
       passed _ 13 _ a.allowed ∙ rw (lt-ltb w.slot 8192 (omega (arith, a.slot, slots_few s r)))
 
   -- at the end all have arrived
-  pub whole_allowed : Reached s (header_of s).slots (header_of s).arrivals (wholeRun s).switch
-  unfolding wholeRun
+  pub whole_allowed : Reached s (header_of s).slots (header_of s).arrivals (whole_run s).switch
+  unfolding whole_run
   whole_allowed = rw before_all at (history_allowed (header_of s).slots (omega arith))
 
   -- no queue is above its capacity, after any slot and any arrival

@@ -25,7 +25,7 @@ use Rattle.switch.specs.declared.Switch.{Switch}
 use Rattle.switch.specs.Switch.{advanced}
 use Rattle.switch.specs.Making.{unused, fresh}
 use Rattle.switch.proofs.KeepsLaws.{conserved}
-use Rattle.run.specs.Run.{History, grown, arrivals, closed, slots, whole as wholeRun}
+use Rattle.run.specs.Run.{History, grown, arrivals, closed, slots, whole as whole_run}
 use Rattle.run.specs.Taking.{takings, slot_of}
 use Rattle.run.proofs.FoldLaws.{grown_then, part_length, arrivals_takings}
 use Rattle.run.proofs.HistoryLaws.{Reached, history_allowed, before_more, before_grows, before_all, before_few}
@@ -102,8 +102,8 @@ module _ (s : List ℕ) (accepted : reading s ≡ 0) (t : ℕ) (below : t < (hea
   abbrev part_of : List ℕ
   part_of = part_from s t (before s t)
 
-  abbrev pub doneIn : Done
-  doneIn = slot_of (has_crosspoints (header_of s).model) (slots s t).switch.queues (header_of s).ports (turn (header_of s).order (header_of s).ports t) (header_of s).speedup t part_of
+  abbrev pub done_in : Done
+  done_in = slot_of (has_crosspoints (header_of s).model) (slots s t).switch.queues (header_of s).ports (turn (header_of s).order (header_of s).ports t) (header_of s).speedup t part_of
 
   reached : Reached s t (before s t) (slots s t).switch
   reached = history_allowed s accepted t (omega arith)
@@ -133,12 +133,12 @@ module _ (s : List ℕ) (accepted : reading s ≡ 0) (t : ℕ) (below : t < (hea
       (slot_kept (has_crosspoints (header_of s).model) (slots s t).switch.queues (header_of s).ports (turn (header_of s).order (header_of s).ports t) (header_of s).speedup t part_of reached.sized few)
 
   -- what the slot leaves in the arrays and the log is the history with that slot
-  pub here_next : (log inlen outlen crosslen mid i o x kept : List ℕ) (at dropped to more : ℕ) → Here log (slots s t) inlen outlen crosslen mid at dropped → LeftAll doneIn i o x mid kept at to → more ≡ of_kind 2 (takings (slots s t).switch.queues t part_of (length part_of / 2)).events → Here log (slots s (t + 1)) i o x kept to (dropped + more)
+  pub here_next : (log inlen outlen crosslen mid i o x kept : List ℕ) (at dropped to more : ℕ) → Here log (slots s t) inlen outlen crosslen mid at dropped → LeftAll done_in i o x mid kept at to → more ≡ of_kind 2 (takings (slots s t).switch.queues t part_of (length part_of / 2)).events → Here log (slots s (t + 1)) i o x kept to (dropped + more)
   here_next log inlen outlen crosslen mid i o x kept at dropped to more a b e =
       let drops = slot_drops (has_crosspoints (header_of s).model) (slots s t).switch.queues (header_of s).ports (turn (header_of s).order (header_of s).ports t) (header_of s).speedup t part_of reached.sized few in
       subst (λ (n : ℕ). Here log (slots s (t + 1)) i o x kept to (dropped + n)) (drops ∙ sym e)
-      (subst (λ (h : History). Here log h i o x kept to (dropped + of_kind 2 doneIn.events)) (sym slot_grows)
-      (here_then log (slots s t) inlen outlen crosslen mid i o x kept at dropped to doneIn (t + 1) a b))
+      (subst (λ (h : History). Here log h i o x kept to (dropped + of_kind 2 done_in.events)) (sym slot_grows)
+      (here_then log (slots s t) inlen outlen crosslen mid i o x kept at dropped to done_in (t + 1) a b))
 
   -- the same, by the numbers of the switch that the loop was given and the part that it cut out
   pub here_by : (w : Switch) (part log inlen outlen crosslen mid i o x kept : List ℕ) (at dropped to more : ℕ) → w ≡ fresh s → part ≡ part_of → Here log (slots s t) inlen outlen crosslen mid at dropped → LeftAll (slot_of (has_crosspoints w.model) (slots s t).switch.queues w.ports (turn w.order w.ports t) w.speedup t part) i o x mid kept at to → more ≡ of_kind 2 (takings (slots s t).switch.queues t part (length part / 2)).events → Here log (slots s (t + 1)) i o x kept to (dropped + more)
@@ -190,13 +190,13 @@ module _ (s : List ℕ) (accepted : reading s ≡ 0) where
         },
       )
 
-  pub here_end : (t : ℕ) (log inlen outlen crosslen kept : List ℕ) (at dropped : ℕ) → t ≡ (header_of s).slots → Here log (slots s t) inlen outlen crosslen kept at dropped → Here log (wholeRun s) inlen outlen crosslen kept at dropped
-  unfolding wholeRun
+  pub here_end : (t : ℕ) (log inlen outlen crosslen kept : List ℕ) (at dropped : ℕ) → t ≡ (header_of s).slots → Here log (slots s t) inlen outlen crosslen kept at dropped → Here log (whole_run s) inlen outlen crosslen kept at dropped
+  unfolding whole_run
   here_end t log inlen outlen crosslen kept at dropped e a = subst (λ (n : ℕ). Here log (slots s n) inlen outlen crosslen kept at dropped) e a
 
   -- and at the end they are the queues of the whole trace
-  pub queues_here : (q : Queues) (log inlen outlen crosslen kept : List ℕ) (at dropped : ℕ) → q ≡ (fresh s).queues → Here log (wholeRun s) inlen outlen crosslen kept at dropped → ◌≡◌ {A = Queues} (record { incap = q.incap; outcap = q.outcap; crosscap = q.crosscap; inlen = inlen; outlen = outlen; crosslen = crosslen }) (wholeRun s).switch.queues
-  unfolding wholeRun
+  pub queues_here : (q : Queues) (log inlen outlen crosslen kept : List ℕ) (at dropped : ℕ) → q ≡ (fresh s).queues → Here log (whole_run s) inlen outlen crosslen kept at dropped → ◌≡◌ {A = Queues} (record { incap = q.incap; outcap = q.outcap; crosscap = q.crosscap; inlen = inlen; outlen = outlen; crosslen = crosslen }) (whole_run s).switch.queues
+  unfolding whole_run
   queues_here q log inlen outlen crosslen kept at dropped e a =
       let h = held_here (header_of s).slots q log inlen outlen crosslen kept at dropped (omega arith) e a in
       λ i. record { incap = h.0 i; outcap = h.1.of_outcap i; crosscap = h.1.of_crosscap i; inlen = a.of_inlen i; outlen = a.of_outlen i; crosslen = a.of_crosslen i }

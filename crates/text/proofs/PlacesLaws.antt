@@ -1,4 +1,4 @@
--- How many digits a number has. The kit's code promises the fewest, at least so many, that hold it (`Fewest`); that fixes their number, since powers grow.
+-- How many digits a number has. The kit's code promises the fewest, at least so many, that hold it (`IsDigitCount`); that fixes their number, since powers grow.
 -- Assumes nothing.
 use Prim.Native.Nat.{ℕ, zero, suc, ◌+◌, ◌-◌, ◌^◌, ◌≤◌, ◌<◌}
 use native.Mathlib.Nat.{pow-le-pow_right}
