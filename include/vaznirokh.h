@@ -1,4 +1,4 @@
-/* Vaznirokh: a proved bench model of Ethernet switches. Link libvaznirokh.a, which `rt lib` in crates/vaznirokh writes (x86-64 Linux).
+/* Vaznirokh: a proved bench model of Ethernet switches. Link libvaznirokh.a, which `second/archive` writes into target/staticlib (x86-64 Linux).
 
    Each function answers 0, or the number of a refusal (the table below); after a refusal nothing that was lent is changed.
    A run of numbers is lent for the call as a pointer and its length in entries. Runs that are lent to one call must not overlap. */

@@ -28,7 +28,6 @@ fn place(i: u32, j: usize) -> usize
 }
 
 // Whether input i may take output j now: a packet waits, there is room for it, and no earlier input took the output.
-#[tactic(auto, using(crate::proofs::VisitLaws::may_by_flag, crate::proofs::VisitLaws::may_not_full, crate::proofs::VisitLaws::may_not_empty))]
 fn may_take(
     i: u32,
     j: usize,
@@ -41,7 +40,8 @@ fn may_take(
     ensures { result ≡ may_take outcap.now inlen.now outlen.now taken.now i j }
 {
     if queues::waits(inlen, place(i, j)) {
-        if queues::has_room(outcap, outlen, j) {
+        let room = queues::has_room(outcap, outlen, j);
+        if room {
             return !taken[j];
         }
     }

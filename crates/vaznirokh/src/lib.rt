@@ -1,4 +1,4 @@
-// The static library: the bench model for programs in other languages, on numbers and lent runs of them (include/vaznirokh.h). Each
+// The library: the bench model on numbers and lent runs of them, for programs in other languages (the crate vaznirokh_c exports it; include/vaznirokh.h). Each
 // function answers 0 or a refusal's number; a lent run of the wrong length gets 30, before anything else, and after a refusal nothing that
 // was lent is changed.
 #![tactic(auto)]
@@ -12,16 +12,14 @@ ghost use Rattle.vaznirokh.specs.Library.{vaz_new, vaz_new_state, vaz_arrive, va
 ghost use Rattle.vaznirokh.specs.Library.{vaz_drain, vaz_drain_state, vaz_drain_answer};
 
 // The verdict on a trace: 0, or 1 to 11.
-#[unsafe(no_mangle)]
-pub extern "C" fn vaz_examine(trace: &[u8]) -> u32
+pub fn vaz_examine(trace: &[u8]) -> u32
     ensures { result ≡ vaz_examine trace.now }
 {
     answers::verdict_number(trace::examine(trace))
 }
 
 // A whole trace: its log, and the six counts arrived, dropped, crossed, outmoved, sent and held.
-#[unsafe(no_mangle)]
-pub extern "C" fn vaz_run(trace: &[u8], log: &mut [u32], counts: &mut [u32]) -> u32
+pub fn vaz_run(trace: &[u8], log: &mut [u32], counts: &mut [u32]) -> u32
     ensures value { result ≡ vaz_run trace.now log.old counts.old }
     ensures log_after { log.new ≡ vaz_run_log trace.now log.old counts.old }
     ensures counts_after { counts.new ≡ vaz_run_counts trace.now log.old counts.old }
@@ -34,8 +32,7 @@ pub extern "C" fn vaz_run(trace: &[u8], log: &mut [u32], counts: &mut [u32]) -> 
 }
 
 // A trace from the header's first six words and three tables, into a lent output.
-#[unsafe(no_mangle)]
-pub extern "C" fn vaz_write(
+pub fn vaz_write(
     header: &[u32],
     capacities: &[u16],
     slot_counts: &[u16],
@@ -54,8 +51,7 @@ pub extern "C" fn vaz_write(
 }
 
 // A new switch from a trace's header and capacities, into 1,066 lent words.
-#[unsafe(no_mangle)]
-pub extern "C" fn vaz_new(trace: &[u8], state: &mut [u32]) -> u32
+pub fn vaz_new(trace: &[u8], state: &mut [u32]) -> u32
     ensures value { result ≡ vaz_new trace.now state.old }
     ensures state_after { state.new ≡ vaz_new_state trace.now state.old }
 {
@@ -67,8 +63,7 @@ pub extern "C" fn vaz_new(trace: &[u8], state: &mut [u32]) -> u32
 }
 
 // One arrival at an input for an output, in the lent switch's slot: the answer is 1 for accepted and 2 for dropped.
-#[unsafe(no_mangle)]
-pub extern "C" fn vaz_arrive(state: &mut [u32], input: u32, output: u32, answer: &mut [u32]) -> u32
+pub fn vaz_arrive(state: &mut [u32], input: u32, output: u32, answer: &mut [u32]) -> u32
     ensures value { result ≡ vaz_arrive state.old input output answer.old }
     ensures state_after { state.new ≡ vaz_arrive_state state.old input output answer.old }
     ensures answer_after { answer.new ≡ vaz_arrive_answer state.old input output answer.old }
@@ -81,8 +76,7 @@ pub extern "C" fn vaz_arrive(state: &mut [u32], input: u32, output: u32, answer:
 }
 
 // The lent switch's slot is closed.
-#[unsafe(no_mangle)]
-pub extern "C" fn vaz_close(state: &mut [u32]) -> u32
+pub fn vaz_close(state: &mut [u32]) -> u32
     ensures value { result ≡ vaz_close state.old }
     ensures state_after { state.new ≡ vaz_close_state state.old }
 {
@@ -94,8 +88,7 @@ pub extern "C" fn vaz_close(state: &mut [u32]) -> u32
 }
 
 // The lent switch is drained: the answer is 1 for empty and 0 for not, and then the quiet slots.
-#[unsafe(no_mangle)]
-pub extern "C" fn vaz_drain(state: &mut [u32], limit: u32, answer: &mut [u32]) -> u32
+pub fn vaz_drain(state: &mut [u32], limit: u32, answer: &mut [u32]) -> u32
     ensures value { result ≡ vaz_drain state.old limit answer.old }
     ensures state_after { state.new ≡ vaz_drain_state state.old limit answer.old }
     ensures answer_after { answer.new ≡ vaz_drain_answer state.old limit answer.old }
