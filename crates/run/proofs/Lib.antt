@@ -1,5 +1,6 @@
 pub mod CountsLaws
 pub mod EndingLaws
+pub mod EnoughLaws
 pub mod FoldLaws
 pub mod HistoryLaws
 pub mod PassingLaws
