@@ -5,7 +5,7 @@ pub mod Listed
 pub mod Lists
 pub mod Lowest
 pub mod Order
-pub mod Refusal
+pub mod RefusalLaws
 pub mod Sets
 pub mod Spelled
 pub mod Sums

@@ -9,12 +9,16 @@ use mathlib.Core.List.{List}
 use contract.Lifetimes.{Lfts}
 use denote.Triple.Clauses.{AtExit}
 use borrow.Fn.Kinds.{ParamKind, ResultKind, Dens, res_t, ended_of, Out}
+use Rattle.base.proofs.Refusal.number.Kinds as number-kinds
+use Rattle.base.proofs.Refusal.number.Reads as number
+use Rattle.base.proofs.Refusal.with.Kinds as with-kinds
+use Rattle.base.proofs.Refusal.with.Reads as with_lem
+use Rattle.base.proofs.RefusalFromRefused.from.Kinds as from-kinds
+use Rattle.base.proofs.RefusalFromRefused.from.Reads as from
 use Rattle.base.proofs.unless.Kinds as unless-kinds
 use Rattle.base.proofs.unless.Reads as unless
-use Rattle.base.proofs.first.Kinds as first-kinds
-use Rattle.base.proofs.first.Reads as first
-use Rattle.base.proofs.both.Kinds as both-kinds
-use Rattle.base.proofs.both.Reads as both
+use Rattle.base.proofs.refusal_of.Kinds as refusal-of-kinds
+use Rattle.base.proofs.refusal_of.Reads as refusal-of
 
 -- two things that are each one thing are equal
 pub determined : {A : Type 0} {a b d : A} → a ≡ d → b ≡ d → a ≡ b
@@ -28,11 +32,18 @@ OneShown n ps r shown post = (κs : Lfts n) (a : Dens κs ps) (x y : (res_t r κ
 abbrev pub OneAnswer : (n : ℕ) (ps : List (ParamKind n)) (r : ResultKind n) → Out n ps r → Type 0
 OneAnswer n ps r = OneShown n ps r (λ κs x d. x)
 
-pub unless_one : OneAnswer 0 unless-kinds.ps unless-kinds.r unless.Post
-unless_one κs a x y d e = determined
+-- for every type of error
+pub unless_one : (T : _) (l : _) (m : _) → OneAnswer 1 (unless-kinds.ps T l) (unless-kinds.r T l) (unless.Post T l m)
+unless_one T l m κs a x y d e = determined
 
-pub first_one : OneAnswer 0 first-kinds.ps first-kinds.r first.Post
-first_one κs a x y d e = determined
+pub with_one : (T : _) (l : _) → OneAnswer 1 (with-kinds.ps T l) (with-kinds.r T l) (with_lem.Post T l)
+with_one T l κs a x y d e = determined
 
-pub both_one : OneAnswer 0 both-kinds.ps both-kinds.r both.Post
-both_one κs a x y d e = determined
+pub number_one : OneAnswer 0 number-kinds.ps number-kinds.r number.Post
+number_one κs a x y d e = determined
+
+pub from_one : (T : _) (l : _) (m : _) → OneAnswer 1 (from-kinds.ps T l) (from-kinds.r T l) (from.Post T l m)
+from_one T l m κs a x y d e = determined
+
+pub refusal_of_one : (T : _) (l : _) (m : _) → OneAnswer 1 (refusal-of-kinds.ps T l) (refusal-of-kinds.r T l) (refusal-of.Post T l m)
+refusal_of_one T l m κs a x y d e = determined

@@ -1,18 +1,16 @@
 -- What a header whose numbers are allowed is known to have, by name.
 -- Assumes nothing.
-use Prim.Native.Nat.{ℕ, zero, suc, ◌*◌, ◌≤◌, zero-le}
+use Prim.Native.Nat.{ℕ, ◌*◌, ◌≤◌, zero-le}
 use native.Mathlib.Nat.{mul-le-mul}
-use mathlib.Core.Path.{◌≡◌, refl}
+use mathlib.Core.Path.{◌≡◌}
 use mathlib.Core.Bool.{Bool, true, false, cond}
 use native.Mathlib.Omega.{arith}
 use lib.Dec.{leb}
 use borrow.Author.Tests.{leb-true}
-use Rattle.base.proofs.Refusal.{unless_zero, chain_zero}
+use Rattle.base.proofs.RefusalLaws.{unless_zero, chain_zero}
 use Rattle.base.proofs.Below.{both_true}
 use Rattle.layout.specs.declared.Header.{Header}
-use Rattle.layout.specs.declared.Places.{Places}
-use Rattle.layout.specs.declared.LaidOut.TheVariants.{At, Refused}
-use Rattle.layout.specs.Header.{model_allowed, order_allowed, side_allowed, count_allowed, header_refusal, has_crosspoints, capacity_count, slot_counts_at, arrivals_at, total_of, places_of, laid_out_of, laid_out}
+use Rattle.layout.specs.Header.{model_allowed, order_allowed, side_allowed, count_allowed, header_refusal, has_crosspoints, capacity_count, slot_counts_at, arrivals_at, total_of}
 
 pub side_small : (n : ℕ) → side_allowed n ≡ true → (1 ≤ n) × (n ≤ 16)
 unfolding side_allowed
@@ -51,12 +49,6 @@ cond_small : (b : Bool) {n m : ℕ} → n ≤ m → cond b n 0 ≤ m
 cond_small true h = h
 cond_small false h = zero-le
 
--- a refusal of the header's numbers is all that laying it out answers
-pub laid_refused : (n : ℕ) (h : Header) → (n ≡ 0 → ⊥) → laid_out_of n h ≡ Refused n
-unfolding laid_out_of
-laid_refused zero h e = absurd (e refl)
-laid_refused (suc n) h e = refl
-
 -- no file is longer than 17,480 bytes, and the tables' places lie within it
 pub places_small : (h : Header) → header_refusal h ≡ 0 → (slot_counts_at h ≤ 1096) × (arrivals_at h ≤ 9288) × (total_of h ≤ 17480)
 unfolding total_of arrivals_at slot_counts_at capacity_count
@@ -65,20 +57,3 @@ places_small h e =
     let n = pairs h e in
     let x : cond (has_crosspoints h.model) (h.ports * h.ports) 0 ≤ 256 = cond_small (has_crosspoints h.model) n.1 in
     omega arith
-
--- what laying a header out says of it
-pub laid_at : (h : Header) (p : Places) → laid_out h ≡ At p → (header_refusal h ≡ 0) × (p ≡ places_of h)
-unfolding laid_out
-laid_at h p e = go (header_refusal h) e
-  where
-    go : (n : ℕ) → laid_out_of n h ≡ At p → (n ≡ 0) × (p ≡ places_of h)
-    go zero e = unfold laid_out_of in (refl, cc)
-    go (suc n) e = let z : Refused (suc n) ≡ At p = unfold laid_out_of in e in let w : ◌≡◌ {A = ℕ} 0 1 = cc in absurd (omega arith)
-
-pub laid_by : (h : Header) (n : ℕ) → laid_out h ≡ Refused n → (header_refusal h ≡ n) × (n ≡ 0 → ⊥)
-unfolding laid_out
-laid_by h n e = go (header_refusal h) e
-  where
-    go : (m : ℕ) → laid_out_of m h ≡ Refused n → (m ≡ n) × (n ≡ 0 → ⊥)
-    go zero e = let z : At (places_of h) ≡ Refused n = unfold laid_out_of in e in let w : ◌≡◌ {A = ℕ} 0 1 = cc in absurd (omega arith)
-    go (suc m) e = let z : Refused (suc m) ≡ Refused n = unfold laid_out_of in e in let w : suc m ≡ n = cc in (w, omega arith)

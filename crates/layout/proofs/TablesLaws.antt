@@ -9,7 +9,7 @@ use borrow.Author.Tests.{eqb-true, leb-true}
 use Rattle.base.specs.Below.{sum_below}
 use Rattle.base.specs.Refusal.{unless, ◌⨟◌}
 use Rattle.base.proofs.Below.{both_true, all_at, all_cong, sum_cong}
-use Rattle.base.proofs.Refusal.{unless_zero, chain_zero}
+use Rattle.base.proofs.RefusalLaws.{unless_zero, chain_zero}
 use Rattle.base.proofs.Sums.{sum_entry}
 use Rattle.layout.specs.declared.Header.{Header}
 use Rattle.layout.specs.Header.{header_refusal, capacity_count}

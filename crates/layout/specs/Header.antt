@@ -1,11 +1,10 @@
 -- The header's numbers (document 01, "The trace file"): what each may be, and the places that they give the tables. Reader and
 -- writer share this layout.
-use Rattle.std.specs.Prelude.{ℕ, zero, suc, ◌+◌, ◌*◌, Bool, ◌&&◌, ◌||◌, cond, leb, eqb}
-use Rattle.base.specs.Refusal.{unless, ◌⨟◌}
+use Rattle.std.specs.Prelude.{ℕ, ◌+◌, ◌*◌, Bool, ◌&&◌, ◌||◌, cond, leb, eqb, Result}
+use Rattle.base.specs.declared.Refusal.{Refusal}
+use Rattle.base.specs.Refusal.{unless, ◌⨟◌, judged}
 use Rattle.layout.specs.declared.Header.{Header}
 use Rattle.layout.specs.declared.Places.{Places}
-use Rattle.layout.specs.declared.LaidOut.{LaidOut}
-use Rattle.layout.specs.declared.LaidOut.TheVariants.{At, Refused}
 
 -- 1 CIOQ, 2 buffered crossbar
 unfoldable pub model_allowed : ℕ → Bool
@@ -58,9 +57,5 @@ unfoldable pub places_of : Header → Places
 places_of h = record { capacities = capacity_count h; counts = slot_counts_at h; arrivals = arrivals_at h; total = total_of h }
 
 -- the places of a header, or the refusal of its numbers
-unfoldable pub laid_out_of : ℕ → Header → LaidOut
-laid_out_of zero h = At (places_of h)
-laid_out_of (suc n) h = Refused (suc n)
-
-unfoldable pub laid_out : Header → LaidOut
-laid_out h = laid_out_of (header_refusal h) h
+unfoldable pub laid_out : Header → Result Places Refusal
+laid_out h = judged (header_refusal h) (places_of h)

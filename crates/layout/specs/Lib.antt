@@ -1,2 +1,3 @@
 pub mod Header
 pub mod Tables
+pub mod File
