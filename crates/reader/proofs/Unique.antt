@@ -5,15 +5,12 @@ use Prim.Native.Nat.{ℕ}
 use mathlib.Core.Path.{◌≡◌}
 use mathlib.Core.List.{List}
 use denote.Ref.{Bor}
+use Rattle.std.specs.Prelude.{Option, Result}
+use Rattle.base.specs.declared.Refusal.{Refusal}
 use Rattle.base.proofs.Unique.{determined}
-use Rattle.trace.specs.declared.Standing.{Standing}
-use Rattle.trace.specs.Slots.{standing}
+use Rattle.trace.specs.Slots.{standing, slot_part}
 use Rattle.reader.specs.declared.Reader.{Reader}
-use Rattle.reader.specs.declared.Handed.{Handed}
-use Rattle.reader.specs.Requests.{slot_after, Answered}
-
-pub slot_after_one : (s : List ℕ) (t m n : ℕ) → m ≡ slot_after s t → n ≡ slot_after s t → m ≡ n
-slot_after_one s t m n = determined
+use Rattle.reader.specs.Requests.{slot_after, part_of, standing_of, Answered}
 
 -- a reader is its trace and its slot
 reader_one : (s : Bor (List ℕ)) (t : ℕ) (q r : Reader) → (q.trace ≡ s) × (q.slot ≡ t) → (r.trace ≡ s) × (r.slot ≡ t) → q ≡ r
@@ -22,24 +19,16 @@ reader_one s t q r x y = λ i. record { trace = determined x.0 y.0 i; slot = det
 pub new_one : (s : Bor (List ℕ)) (q r : Reader) → (q.trace ≡ s) × (q.slot ≡ 0) → (r.trace ≡ s) × (r.slot ≡ 0) → q ≡ r
 new_one s = reader_one s 0
 
--- two answers with the same trace, the same bytes of arrivals, the same standing and the same slot
-pub record Same (h j : Handed) : Type 0 where
-  pub trace : h.trace ≡ j.trace
-  pub part : h.part.now ≡ j.part.now
-  pub standing : h.standing ≡ j.standing
-  pub slot : h.slot ≡ j.slot
+-- two answers that say the same of the slot, with the same bytes of arrivals
+pub record Same (h j : Result (Option (Bor (List ℕ))) Refusal) : Type 0 where
+  pub part : part_of h ≡ part_of j
+  pub standing : standing_of h ≡ standing_of j
 
-pub next_one : (r : Reader) (h j : Handed) → Answered r h → Answered r j → Same h j
-next_one r h j x y =
-    record {
-      trace = determined x.trace y.trace;
-      part = determined x.part y.part;
-      standing = determined x.standing y.standing;
-      slot = determined x.slot y.slot;
-    }
+pub next_one : (r p q : Reader) (h j : Result (Option (Bor (List ℕ))) Refusal) → Answered r p h → Answered r q j → Same h j × (p ≡ q)
+next_one r p q h j x y = (
+  record { part = determined x.part y.part; standing = determined x.standing y.standing },
+  reader_one r.trace (slot_after r.trace.now r.slot) p q (x.trace, x.slot) (y.trace, y.slot),
+)
 
-pub onward_one : (h : Handed) (q r : Reader) → (q.trace ≡ h.trace) × (q.slot ≡ h.slot) → (r.trace ≡ h.trace) × (r.slot ≡ h.slot) → q ≡ r
-onward_one h = reader_one h.trace h.slot
-
-pub second_one : (s : List ℕ) (x y : Standing) → x ≡ standing s (slot_after s 0) → y ≡ standing s (slot_after s 0) → x ≡ y
-second_one s x y = determined
+pub second_one : (s : List ℕ) (x y : Result (Option (Bor (List ℕ))) Refusal) → (standing_of x ≡ standing s (slot_after s 0)) × (part_of x ≡ slot_part s (slot_after s 0)) → (standing_of y ≡ standing s (slot_after s 0)) × (part_of y ≡ slot_part s (slot_after s 0)) → Same x y
+second_one s x y v w = record { part = determined v.1 w.1; standing = determined v.0 w.0 }

@@ -3,19 +3,19 @@
 -- Assumes nothing.
 use Prim.Native.Nat.{ℕ, ◌≤◌}
 use native.Mathlib.Omega.{arith}
-use mathlib.Core.Path.{◌≡◌, refl, sym, ◌∙◌}
+use mathlib.Core.Path.{◌≡◌, refl, ◌∙◌}
 use mathlib.Core.Bool.{Bool, true, false, ◌||◌, and-eq-true_iff}
 use mathlib.Core.List.{List}
 use lib.ListN.{length}
 use lib.Dec.{eqb}
 use borrow.Author.Tests.{eqb-true, eq-eqb}
-use Rattle.base.proofs.Refusal.{chain_zero, passed}
+use Rattle.base.proofs.RefusalLaws.{chain_zero, passed}
 use Rattle.layout.specs.declared.Header.{Header}
 use Rattle.layout.specs.declared.Places.{Places}
 use Rattle.layout.specs.Header.{model_allowed, header_refusal, places_of, total_of, arrivals_at, slot_counts_at}
 use Rattle.layout.specs.Tables.{tables_refusal}
 use Rattle.trace.specs.Reading.{header_of, capacity, slot_count, port_byte, places_right, body_refusal, reading}
-use Rattle.trace.proofs.ReadingLaws.{Right, nothing_refused, accepted}
+use Rattle.trace.proofs.ReadingLaws.{Right, nothing_refused}
 
 -- a model is 1 or 2
 pub model_small : (m : ℕ) → model_allowed m ≡ true → m ≤ 2
@@ -44,7 +44,7 @@ unfolding body_refusal
 accepted_when s h e z r t =
     let long : 40 ≤ length s = unfold places_of total_of arrivals_at slot_counts_at in omega (arith, r.length) in
     let body : body_refusal s h ≡ 0 = passed _ 8 _ (places_right_lem s (places_of h) r) ∙ t in
-    (accepted s h (nothing_refused s h (sym e) long z body)).0
+    nothing_refused s h e long z body
 
 -- nothing refuses an accepted trace's tables
 pub tables_passed : (s : List ℕ) → reading s ≡ 0 → tables_refusal (header_of s) (capacity s) (slot_count s) (port_byte s) ≡ 0

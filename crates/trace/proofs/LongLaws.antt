@@ -13,7 +13,7 @@ use borrow.Author.Tests.{le-leb}
 use Rattle.base.specs.Digits.{number}
 use Rattle.base.specs.Refusal.{◌⨟◌}
 use Rattle.base.proofs.Cases.{true_or_false, same_or_not}
-use Rattle.base.proofs.Refusal.{stops, goes_on, passed, failed}
+use Rattle.base.proofs.RefusalLaws.{stops, goes_on, passed, failed}
 use Rattle.layout.specs.declared.Header.{Header}
 use Rattle.layout.specs.Header.{header_refusal, places_of}
 use Rattle.trace.specs.Reading.{header_of, places_right, body_refusal, reading}

@@ -1,26 +1,23 @@
--- What the chain of reading's refusals says at each of its ways out, and what stands in its place in an accepted trace.
+-- What stands in its place in an accepted trace, when a trace is accepted, and the number of its refusal.
 -- Assumes nothing.
-use Prim.Native.Nat.{ℕ, zero, suc, ◌+◌, ◌*◌, ◌≤◌, ◌<◌}
+use Prim.Native.Nat.{ℕ, ◌+◌, ◌*◌, ◌≤◌}
 use native.Mathlib.Omega.{arith}
 use mathlib.Core.Path.{◌≡◌, refl, sym, ap, ◌∙◌}
-use mathlib.Core.Bool.{true}
+use mathlib.Core.Bool.{Bool, true, false}
 use mathlib.Core.List.{List}
 use lib.ListN.{length}
-use lib.Dec.{leb, ltb, eqb}
-use borrow.Author.Tests.{eqb-true, leb-true, le-leb, lt-leb}
-use Rattle.base.specs.Below.{all_below, sum_below}
+use borrow.Author.Tests.{eqb-true, leb-true, le-leb}
+use Rattle.std.specs.Prelude.{Ok}
+use Rattle.base.specs.Below.{sum_below}
 use Rattle.base.specs.Digits.{byte}
-use Rattle.base.specs.Refusal.{◌⨟◌}
+use Rattle.base.specs.Refusal.{unless, ◌⨟◌, refusal_of}
 use Rattle.base.proofs.Below.{both_true}
-use Rattle.base.proofs.Refusal.{unless_zero, chain_zero, stops, goes_on, passed, failed}
+use Rattle.base.proofs.RefusalLaws.{unless_zero, chain_zero, goes_on, passed, clear, unless_small, chain_small, number_of_judged}
 use Rattle.layout.specs.declared.Header.{Header}
 use Rattle.layout.specs.declared.Places.{Places}
-use Rattle.layout.specs.declared.LaidOut.TheVariants.{Refused as LaidRefused}
-use Rattle.trace.specs.declared.Verdict.TheVariants.{Accepted, Refused}
-use Rattle.layout.specs.Header.{header_refusal, capacity_count, places_of, laid_out}
-use Rattle.layout.specs.Tables.{capacity_allowed, capacities_allowed, counts_add_up, ports_below, tables_refusal}
-use Rattle.layout.proofs.HeaderLaws.{laid_by}
-use Rattle.trace.specs.Reading.{half, word, header_of, capacity, slot_count, port_byte, places_right, body_refusal, reading, verdict_of, verdict, refusal_of}
+use Rattle.layout.specs.Header.{header_refusal, places_of}
+use Rattle.layout.specs.Tables.{capacities_allowed, counts_add_up, ports_below, tables_refusal}
+use Rattle.trace.specs.Reading.{half, word, header_of, capacity, slot_count, port_byte, places_right, body_refusal, reading, verdict}
 
 -- the header's offsets and total, and the slice's length
 pub record Right (s : List ℕ) (p : Places) : Type 0 where
@@ -46,61 +43,47 @@ right s p h =
     }
 
 -- tables that stand in their places are judged where they stand
-module _ (s : List ℕ) (h : Header) (p : Places) (e : p ≡ places_of h) (r : places_right s p ≡ true) where
-  pub capacities_judged : all_below (λ k. capacity_allowed (half s (40 + 2 * k))) p.capacities ≡ capacities_allowed h (capacity s)
-  unfolding capacities_allowed capacity places_of
-  capacities_judged =
-      ap (λ (n : ℕ). all_below (λ k. capacity_allowed (half s (40 + 2 * k))) n) (ap (λ (q : Places). q.capacities) e)
-      ∙ ap (λ (at : ℕ). all_below (λ k. capacity_allowed (half s (at + 2 * k))) (capacity_count h)) (sym (right s p r).capacities)
+pub judged_in_place : (s : List ℕ) (h : Header) (p : Places) → places_right s p ≡ true → tables_refusal h (λ k. half s (40 + 2 * k)) (λ t. half s (p.counts + 2 * t)) (λ b. byte s (p.arrivals + b)) ≡ tables_refusal h (capacity s) (slot_count s) (port_byte s)
+unfolding capacity slot_count port_byte
+judged_in_place s h p r =
+    let at = right s p r in
+    λ i.
+    tables_refusal h
+    (λ k. half s (sym at.capacities i + 2 * k))
+    (λ t. half s (sym at.counts i + 2 * t))
+    (λ b. byte s (sym at.arrivals i + b))
 
-  pub counts_judged : eqb (sum_below (λ t. half s (p.counts + 2 * t)) h.slots) h.arrivals ≡ counts_add_up h (slot_count s)
-  unfolding counts_add_up slot_count
-  counts_judged = ap (λ (at : ℕ). eqb (sum_below (λ t. half s (at + 2 * t)) h.slots) h.arrivals) (sym (right s p r).counts)
+-- a trace that nothing refuses
+pub nothing_refused : (s : List ℕ) (h : Header) → header_of s ≡ h → 40 ≤ length s → header_refusal h ≡ 0 → body_refusal s h ≡ 0 → reading s ≡ 0
+unfolding reading
+nothing_refused s h e l z b =
+    passed _ 1 _ (le-leb 40 (length s) l)
+    ∙ ap (λ (h : Header). header_refusal h ⨟ body_refusal s h) e
+    ∙ goes_on _ _ z
+    ∙ b
 
-  pub ports_judged : all_below (λ b. ltb (byte s (p.arrivals + b)) h.ports) (2 * h.arrivals) ≡ ports_below h (port_byte s)
-  unfolding ports_below port_byte
-  ports_judged = ap (λ (at : ℕ). all_below (λ b. ltb (byte s (at + b)) h.ports) (2 * h.arrivals)) (sym (right s p r).arrivals)
-
-verdict_refused : (n : ℕ) (h : Header) → (n ≡ 0 → ⊥) → verdict_of n h ≡ Refused n
-unfolding verdict_of
-verdict_refused zero h e = absurd (e refl)
-verdict_refused (suc n) h e = refl
-
--- the ways out of the chain
-pub too_short : (s : List ℕ) → length s < 40 → verdict s ≡ Refused 1
-unfolding verdict verdict_of reading
-too_short s l = rw (failed (leb 40 (length s)) 0 (header_refusal (header_of s) ⨟ body_refusal s (header_of s)) (lt-leb 40 (length s) l))
-
-module _ (s : List ℕ) (h : Header) (e : h ≡ header_of s) (l : 40 ≤ length s) where
-  long_enough : reading s ≡ (header_refusal h ⨟ body_refusal s h)
-  unfolding reading
-  long_enough = passed _ 1 _ (le-leb 40 (length s) l) ∙ ap (λ (h : Header). header_refusal h ⨟ body_refusal s h) (sym e)
-
-  judged : (n : ℕ) → reading s ≡ n → verdict s ≡ verdict_of n h
-  unfolding verdict
-  judged n r = rw (r, e)
-
-  pub header_refused : (n : ℕ) → laid_out h ≡ LaidRefused n → verdict s ≡ Refused n
-  header_refused n r =
-      let by = laid_by h n r in
-      let first : reading s ≡ n = long_enough ∙ stops _ _ (λ z. by.1 (sym by.0 ∙ z)) ∙ by.0 in
-      judged n first ∙ verdict_refused n h by.1
-
-  pub body_refused : (n : ℕ) → header_refusal h ≡ 0 → n ≡ body_refusal s h → (n ≡ 0 → ⊥) → verdict s ≡ Refused n
-  body_refused n z r ne = judged n (long_enough ∙ goes_on _ _ z ∙ sym r) ∙ verdict_refused n h ne
-
-  pub nothing_refused : header_refusal h ≡ 0 → body_refusal s h ≡ 0 → verdict s ≡ Accepted h
-  unfolding verdict_of
-  nothing_refused z r = judged 0 (long_enough ∙ goes_on _ _ z ∙ r)
+-- reading's refusals are 1 to 11
+pub reading_small : (s : List ℕ) → reading s ≤ 11
+unfolding reading header_refusal body_refusal tables_refusal
+reading_small s =
+    let test = λ (b : Bool) (n : ℕ) (l : n ≤ 11). unless_small b n 11 l in
+    let h = header_of s in
+    let p = places_of h in
+    chain_small _ _ 11 (test _ 1 (omega arith))
+    (chain_small _ _ 11
+    (chain_small _ _ 11 (test _ 2 (omega arith))
+    (chain_small _ _ 11 (test _ 3 (omega arith))
+    (chain_small _ _ 11 (test _ 4 (omega arith))
+    (chain_small _ _ 11 (test _ 5 (omega arith))
+    (chain_small _ _ 11 (test _ 6 (omega arith)) (test _ 7 (omega arith)))))))
+    (chain_small _ _ 11 (test _ 8 (omega arith))
+    (chain_small _ _ 11 (test _ 9 (omega arith))
+    (chain_small _ _ 11 (test _ 10 (omega arith)) (test _ 11 (omega arith))))))
 
 -- the verdict's number is the first refusal's
 pub refusal_of_verdict : (s : List ℕ) → refusal_of (verdict s) ≡ reading s
 unfolding verdict
-refusal_of_verdict s = go (reading s)
-  where
-    go : (n : ℕ) → refusal_of (verdict_of n (header_of s)) ≡ n
-    go zero = unfold refusal_of verdict_of in refl
-    go (suc n) = unfold refusal_of verdict_of in refl
+refusal_of_verdict s = number_of_judged (reading s) (header_of s) (omega (arith, reading_small s))
 
 -- what an accepted trace is known to have, by name
 pub record Whole (s : List ℕ) : Type 0 where
@@ -129,10 +112,6 @@ whole s e =
     }
 
 -- only an accepted trace gets that verdict
-pub accepted : (s : List ℕ) (h : Header) → verdict s ≡ Accepted h → (reading s ≡ 0) × (h ≡ header_of s)
+pub accepted : (s : List ℕ) (h : Header) → verdict s ≡ Ok h → (reading s ≡ 0) × (h ≡ header_of s)
 unfolding verdict
-accepted s h e = go (reading s) e
-  where
-    go : (n : ℕ) → verdict_of n (header_of s) ≡ Accepted h → (n ≡ 0) × (h ≡ header_of s)
-    go zero e = let z : Accepted (header_of s) ≡ Accepted h = unfold verdict_of in e in (refl, cc)
-    go (suc n) e = let z : Refused (suc n) ≡ Accepted h = unfold verdict_of in e in let w : ◌≡◌ {A = ℕ} 0 1 = cc in absurd (omega arith)
+accepted s h e = clear _ _ _ (sym e)

@@ -1,10 +1,9 @@
 -- Reading a trace (document 01, "The trace file" and "Refusal numbers"), over any list of bytes.
-use Rattle.std.specs.Prelude.{ℕ, zero, suc, ◌+◌, ◌*◌, Bool, ◌&&◌, List, length, leb, eqb}
+use Rattle.std.specs.Prelude.{ℕ, ◌+◌, ◌*◌, Bool, ◌&&◌, List, Result, length, leb, eqb}
 use Rattle.base.specs.Digits.{byte, number}
-use Rattle.base.specs.Refusal.{unless, ◌⨟◌}
+use Rattle.base.specs.declared.Refusal.{Refusal}
+use Rattle.base.specs.Refusal.{unless, ◌⨟◌, judged}
 use Rattle.layout.specs.declared.Header.{Header}
-use Rattle.trace.specs.declared.Verdict.{Verdict}
-use Rattle.trace.specs.declared.Verdict.TheVariants.{Accepted, Refused}
 use Rattle.layout.specs.declared.Places.{Places}
 use Rattle.layout.specs.Header.{header_refusal, capacities_at, places_of}
 use Rattle.layout.specs.Tables.{tables_refusal}
@@ -54,15 +53,6 @@ body_refusal s h = unless (places_right s (places_of h)) 8 ⨟ tables_refusal h 
 unfoldable pub reading : List ℕ → ℕ
 reading s = unless (leb 40 (length s)) 1 ⨟ header_refusal (header_of s) ⨟ body_refusal s (header_of s)
 
--- the verdict for a refusal's number: 0 accepts, with the header's numbers
-unfoldable pub verdict_of : ℕ → Header → Verdict
-verdict_of zero h = Accepted h
-verdict_of (suc n) h = Refused (suc n)
-
-unfoldable pub verdict : List ℕ → Verdict
-verdict s = verdict_of (reading s) (header_of s)
-
--- the paper's number of each verdict
-unfoldable pub refusal_of : Verdict → ℕ
-refusal_of (Accepted h) = 0
-refusal_of (Refused n) = n
+-- the header's numbers of an accepted trace, or the first refusal
+unfoldable pub verdict : List ℕ → Result Header Refusal
+verdict s = judged (reading s) (header_of s)

@@ -1,12 +1,12 @@
 -- One slot's arrivals and the part of the trace that holds them (document 01: the reader "hands out the arrivals of one slot after
 -- another").
-use Rattle.std.specs.Prelude.{ℕ, ◌+◌, ◌*◌, cond, List, [], take, drop, ltb}
+use Rattle.std.specs.Prelude.{ℕ, ◌+◌, ◌*◌, cond, List, [], Result, Ok, Err, take, drop, ltb}
 use Rattle.base.specs.Below.{sum_below}
+use Rattle.base.specs.declared.Refusal.{Refusal}
+use Rattle.layout.specs.declared.Header.{Header}
 use Rattle.trace.specs.declared.Ports.{Ports}
 use Rattle.trace.specs.declared.Standing.{Standing}
-use Rattle.trace.specs.declared.Standing.TheVariants.{Arrivals, NoMore, Refused as StandingRefused}
-use Rattle.trace.specs.declared.Verdict.{Verdict}
-use Rattle.trace.specs.declared.Verdict.TheVariants.{Accepted, Refused}
+use Rattle.trace.specs.declared.Standing.TheVariants.{Arrivals, NoMore}
 use Rattle.trace.specs.Reading.{word, slot_count, port_byte, verdict}
 
 -- arrival a, input port and output port
@@ -22,18 +22,18 @@ unfoldable pub part_from : List ℕ → ℕ → ℕ → List ℕ
 part_from s t start = take (2 * slot_count s t) (drop (word s 32 + 2 * start) s)
 
 -- what stands at slot t: a bad trace's refusal; no more, where t is not below the slots; or arrivals to hand out
-unfoldable pub standing_in : Verdict → ℕ → Standing
-standing_in (Accepted h) t = cond (ltb t h.slots) Arrivals NoMore
-standing_in (Refused n) t = StandingRefused n
+unfoldable pub standing_in : Result Header Refusal → ℕ → Result Standing Refusal
+standing_in (Ok h) t = Ok (cond (ltb t h.slots) Arrivals NoMore)
+standing_in (Err e) t = Err e
 
-unfoldable pub standing : List ℕ → ℕ → Standing
+unfoldable pub standing : List ℕ → ℕ → Result Standing Refusal
 standing s t = standing_in (verdict s) t
 
 -- the bytes of slot t's arrivals, and none where there is nothing to hand out
-unfoldable pub part_at : Standing → List ℕ → ℕ → List ℕ
-part_at Arrivals s t = part_from s t (before s t)
-part_at NoMore s t = []
-part_at (StandingRefused n) s t = []
+unfoldable pub part_at : Result Standing Refusal → List ℕ → ℕ → List ℕ
+part_at (Ok Arrivals) s t = part_from s t (before s t)
+part_at (Ok NoMore) s t = []
+part_at (Err e) s t = []
 
 unfoldable pub slot_part : List ℕ → ℕ → List ℕ
 slot_part s t = part_at (standing s t) s t

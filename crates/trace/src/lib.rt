@@ -2,86 +2,51 @@
 #![tactic(auto)]
 
 mod numbers; // numbers.rt: 8, 16 and 32 bits out of a slice of bytes
-mod tables; // tables.rt: what the three tables may hold
+mod tables; // tables.rt: the three tables at their places
 
-ghost use Rattle.std.specs.Prelude.{◌≡◌, true};
-ghost use Rattle.layout.specs.Header.{header_refusal, places_of};
-ghost use Rattle.layout.specs.Tables.{tables_refusal};
-ghost use Rattle.trace.specs.Reading.{header_of, capacity, slot_count, port_byte, places_right, body_refusal, verdict};
-ghost use Rattle.trace.specs.Slots.{arrival_of, part_from, slot_part, standing};
+ghost use Rattle.std.specs.Prelude.{◌≡◌};
+ghost use Rattle.base.specs.Refusal.{judged};
+ghost use Rattle.trace.specs.Reading.{header_of, capacity, slot_count, body_refusal, verdict};
+ghost use Rattle.trace.specs.Slots.{arrival_of, before, part_from, slot_part, standing};
 
-use layout::{Header, LaidOut, Places};
-
-// What examining a trace finds: the header's numbers of an accepted one, or the first refusal's number, 1 to 11.
-#[derive(Clone, Copy)]
-pub enum Verdict {
-    Accepted(Header),
-    Refused(u32),
-}
+use base::{Refusal, unless};
+use layout::{File, Header};
+use tables::Placed;
 
 // One arrival's ports.
-#[derive(Clone, Copy)]
+#[derive(Clone, Copy, Debug, PartialEq, Eq)]
 pub struct Ports {
     pub input: u8,
     pub output: u8,
 }
 
-// What stands at a slot of a trace: arrivals to hand out, no more slots, or a bad trace's refusal.
-#[derive(Clone, Copy)]
+// What stands at a slot of an accepted trace: arrivals to hand out, or no more slots.
+#[derive(Clone, Copy, Debug, PartialEq, Eq)]
 pub enum Standing {
     Arrivals,
     NoMore,
-    Refused(u32),
-}
-
-// The refusals 9 to 11, of tables that stand in their places.
-fn tables_refusal(trace: &[u8], header: Header, places: Places) -> u32
-    requires { (header_refusal header ≡ 0) × (places ≡ places_of header) × (places_right trace.now places ≡ true) }
-    ensures { result ≡ tables_refusal header (capacity trace.now) (slot_count trace.now) (port_byte trace.now) }
-{
-    let n = header.ports;
-    let slots = header.slots as u16;
-    let arrivals = header.arrivals;
-    let capacities = base::unless(tables::capacities_allowed(trace, 40, places.capacities), 9);
-    let counts = base::unless(
-        tables::sum(trace, places.counts, slots) == arrivals as usize,
-        10,
-    );
-    let ports = base::unless(
-        tables::ports_below(trace, places.arrivals as u32, 2 * arrivals, n),
-        11,
-    );
-    base::first(capacities, base::first(counts, ports))
 }
 
 // The refusals 8 to 11, of a trace whose header's numbers are allowed.
-fn body_refusal(trace: &[u8], header: Header, places: Places) -> u32
-    requires { (header_refusal header ≡ 0) × (places ≡ places_of header) }
-    ensures { result ≡ body_refusal trace.now header }
+fn body_refusal(trace: &[u8], file: File) -> Result<(), Refusal>
+    ensures { result ≡ judged (body_refusal trace.now file.header) tt }
 {
-    if !tables::places_right(trace, places) {
-        return 8;
-    }
-    tables_refusal(trace, header, places)
+    let tables = Placed {
+        trace,
+        places: file.places,
+    };
+    unless(tables.right(), Refusal::Places)?;
+    layout::tables_refusal(file, &tables)
 }
 
-pub fn examine(trace: &[u8]) -> Verdict
+// The header's numbers of an accepted trace, or the first refusal, 1 to 11.
+pub fn examine(trace: &[u8]) -> Result<Header, Refusal>
     ensures { result ≡ verdict trace.now }
 {
-    if trace.len() < 40 {
-        return Verdict::Refused(1);
-    }
-    let header = numbers::header(trace);
-    match layout::lay_out(header) {
-        LaidOut::Refused(n) => Verdict::Refused(n),
-        LaidOut::At(places) => {
-            let n = body_refusal(trace, header, places);
-            if n != 0 {
-                return Verdict::Refused(n);
-            }
-            Verdict::Accepted(header)
-        }
-    }
+    unless(40 <= trace.len(), Refusal::FewerThan40Bytes)?;
+    let file = File::of(numbers::header(trace))?;
+    body_refusal(trace, file)?;
+    Ok(file.header)
 }
 
 // The header's first six words, allowed or not.
@@ -93,27 +58,30 @@ pub fn head(trace: &[u8]) -> Header
 
 // Entry k of the capacities. This question and the next three judge nothing: past a table's end they answer what stands there, and
 // 0 past the slice's.
+#[tactic(auto, unfolding(crate::specs::Reading::capacity))]
 pub fn capacity(trace: &[u8], k: usize) -> u32
     ensures { result ≡ capacity trace.now k }
 {
-    numbers::entry(trace, numbers::word(trace, 24) as usize, k)
+    numbers::entry(trace, numbers::word(trace, 24) as usize, k) as u32
 }
 
 // The arrival count of slot t.
+#[tactic(auto, unfolding(crate::specs::Reading::slot_count))]
 pub fn slot_count(trace: &[u8], t: usize) -> u32
     ensures { result ≡ slot_count trace.now t }
 {
-    numbers::entry(trace, numbers::word(trace, 28) as usize, t)
+    numbers::entry(trace, numbers::word(trace, 28) as usize, t) as u32
 }
 
 // Arrival a.
+#[tactic(auto, unfolding(crate::specs::Slots::arrival_of, crate::specs::Reading::port_byte))]
 pub fn arrival(trace: &[u8], a: usize) -> Ports
     ensures { result ≡ arrival_of trace.now a }
 {
-    let p = numbers::place(trace.len(), numbers::word(trace, 32) as usize, a);
+    let p = numbers::place(numbers::word(trace, 32) as usize, a);
     Ports {
-        input: numbers::byte(trace, p) as u8,
-        output: numbers::byte(trace, p + 1) as u8,
+        input: numbers::byte(trace, p, 0),
+        output: numbers::byte(trace, p, 1),
     }
 }
 
@@ -122,41 +90,45 @@ pub fn arrival(trace: &[u8], a: usize) -> Ports
 pub fn part_from(trace: &[u8], t: usize, start: usize) -> &[u8]
     ensures { result.now ≡ part_from trace.now t start }
 {
-    let count = slot_count(trace, t) as usize;
-    let at = numbers::word(trace, 32) as usize;
-    let n = trace.len();
-    let from = numbers::place(n, at, start);
-    let to = numbers::place(n, from, count);
-    &trace[from..to]
+    let from = numbers::place(numbers::word(trace, 32) as usize, start).min(trace.len());
+    let rest = &trace[from..];
+    let length = 2 * slot_count(trace, t) as usize;
+    &rest[..length.min(rest.len())]
 }
 
-// What stands at slot t: whether there are arrivals to hand out.
-pub fn stands(trace: &[u8], t: usize) -> Standing
+// How many arrivals stand before slot t, of any trace: layout's sum is over tables that stand in their places. (Over `map` and `sum` the proof does not close.)
+#[tactic(auto, using(base::proofs::Below::sum_none, base::proofs::Below::sum_more), unfolding(crate::specs::Slots::before, crate::specs::Reading::slot_count))]
+fn arrivals_before(trace: &[u8], t: u16) -> usize
+    ensures { result ≡ before trace.now t }
+{
+    let at = numbers::word(trace, 28) as usize;
+    let mut sum: usize = 0;
+    for slot in 0..t as usize {
+        sum += numbers::entry(trace, at, slot) as usize;
+    }
+    sum
+}
+
+// What stands at slot t: whether there are arrivals to hand out, or the trace's refusal.
+#[tactic(auto, unfolding(crate::specs::Slots::standing, crate::specs::Slots::standing_in))]
+pub fn stands(trace: &[u8], t: usize) -> Result<Standing, Refusal>
     ensures { result ≡ standing trace.now t }
 {
-    match examine(trace) {
-        Verdict::Refused(n) => Standing::Refused(n),
-        Verdict::Accepted(header) => {
-            if t < header.slots as usize {
-                Standing::Arrivals
-            } else {
-                Standing::NoMore
-            }
-        }
+    let header = examine(trace)?;
+    if t < header.slots as usize {
+        Ok(Standing::Arrivals)
+    } else {
+        Ok(Standing::NoMore)
     }
 }
 
 // The bytes of slot t's arrivals, and none where the trace is refused or has no slot t.
+#[tactic(auto, unfolding(crate::specs::Slots::slot_part, crate::specs::Slots::part_at), using(crate::proofs::SlotsLaws::stands_below, crate::proofs::SlotsLaws::slots_few))]
 pub fn slot_part(trace: &[u8], t: usize) -> &[u8]
     ensures { result.now ≡ slot_part trace.now t }
 {
     match stands(trace, t) {
-        Standing::Arrivals => part_from(
-            trace,
-            t,
-            tables::sum(trace, numbers::word(trace, 28) as usize, t as u16),
-        ),
-        Standing::NoMore => &trace[0..0],
-        Standing::Refused(_) => &trace[0..0],
+        Ok(Standing::Arrivals) => part_from(trace, t, arrivals_before(trace, t as u16)),
+        Ok(Standing::NoMore) | Err(_) => &[],
     }
 }

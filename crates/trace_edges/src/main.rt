@@ -1,79 +1,34 @@
 // The edges of the trace file (document 01, "The trace file", "Refusal numbers" and "Bench cases"), each on a line: what was done, and
 // the number that it is refused with, 0 where it is accepted. `ports-17 4` is C1 with 17 for its ports, which is refused with 4. What
-// the lines have to say stands in the file `stdout`, written by hand from document 01.
+// the lines have to say stands in the file `stdout`, written by hand from document 01. What cannot be printed is left out.
 #![tactic(auto)]
 
-ghost use Rattle.std.specs.Prelude.{◌≤◌};
-
-use layout::{Header, LaidOut};
-use trace::Verdict;
-use trace_write::Written;
+use base::{Refusal, refusal_of};
+use layout::Header;
+use std::fmt;
 
 // What a room holds before anything is written into it.
 const BLANK: u8 = 170;
 
-fn wide(b: u8) -> u32 {
-    b as u32
+// What reading the first n bytes is refused with, and 99 where there are fewer: a number, since it stands in the line that is printed.
+fn read(out: &[u8], n: usize) -> u32 {
+    out.get(..n)
+        .map_or(99, |part| refusal_of(trace::examine(part)))
 }
 
-// The byte at a place, and 256 past the end.
+// The byte at a place, and 256 past the end, as the line has it.
 fn byte(s: &[u8], at: usize) -> u32 {
-    if at < s.len() {
-        return wide(s[at]);
-    }
-    256
-}
-
-fn least(a: usize, b: usize) -> usize
-    ensures { result ≤ b }
-{
-    if a < b {
-        return a;
-    }
-    b
-}
-
-fn less(n: usize) -> usize {
-    if n == 0 {
-        return 0;
-    }
-    n - 1
-}
-
-fn set(out: &mut [u8], at: usize, b: u8) {
-    if at < out.len() {
-        out[at] = b;
-    }
+    s.get(at).map_or(256, |b| *b as u32)
 }
 
 // The low `width` bytes of v, low byte first.
-fn put(out: &mut [u8], at: u16, width: u16, v: u32) {
-    let p = at as usize;
-    let mut rest = v;
-    for k in 0..width as usize {
-        set(out, p + k, (rest % 256) as u8);
-        rest = rest / 256;
+fn put(out: &mut [u8], at: usize, width: usize, v: u32) {
+    let bytes = v.to_le_bytes();
+    if let Some(place) = out.get_mut(at..) {
+        for (to, from) in place.iter_mut().zip(&bytes[..width.min(4)]) {
+            *to = *from;
+        }
     }
-}
-
-// What cannot be written is left out.
-fn name(rt: &impl Print, text: &str) {
-    let _ = print!(rt; "{text}");
-}
-
-fn dash(rt: &impl Print, v: u32) {
-    let _ = print!(rt; "-{v}");
-}
-
-fn answer(rt: &impl Print, n: u32) {
-    let _ = println!(rt; " {n}");
-}
-
-// A line whose name ends with a value.
-fn line(rt: &impl Print, text: &str, v: u32, n: u32) {
-    name(rt, text);
-    dash(rt, v);
-    answer(rt, n);
 }
 
 fn header(model: u32, order: u32, ports: u32, speedup: u32, slots: u32, arrivals: u32) -> Header {
@@ -87,58 +42,6 @@ fn header(model: u32, order: u32, ports: u32, speedup: u32, slots: u32, arrivals
     }
 }
 
-// What reading the first n bytes is refused with, and 99 where there are fewer.
-fn read(out: &[u8], n: usize) -> u32 {
-    if out.len() < n {
-        return 99;
-    }
-    let part = &out[0..n];
-    match trace::examine(part) {
-        Verdict::Accepted(_) => 0,
-        Verdict::Refused(r) => r,
-    }
-}
-
-// What writing is refused with.
-fn number(w: Written) -> u32 {
-    match w {
-        Written::Filled(_) => 0,
-        Written::Refused(r) => r,
-    }
-}
-
-// How much was filled.
-fn total(w: Written) -> usize {
-    match w {
-        Written::Filled(n) => n,
-        Written::Refused(_) => 0,
-    }
-}
-
-// C1 with this capacity, from tables of these lengths.
-fn c1_of(capacity: u16, c: usize, s: usize, p: usize, out: &mut [u8]) -> u32 {
-    let capacities = [capacity; 7];
-    let counts = [4u16, 1, 0];
-    let ports = [0u8, 0, 0, 0, 0, 1, 1, 0, 1, 1, 0];
-    let c = least(c, 7);
-    let s = least(s, 3);
-    let p = least(p, 11);
-    let h = header(1, 1, 2, 1, 2, 5);
-    number(trace_write::write(h, &capacities[0..c], &counts[0..s], &ports[0..p], out))
-}
-
-// C1, 66 bytes.
-fn c1(out: &mut [u8]) -> u32 {
-    c1_of(1, 6, 2, 10, out)
-}
-
-fn capacity_count(h: Header) -> usize {
-    match layout::lay_out(h) {
-        LaidOut::At(places) => places.capacities,
-        LaidOut::Refused(_) => 0,
-    }
-}
-
 // A trace: its header's numbers, and what each capacity, each count and each port is. Its tables are as long as the header makes them.
 #[derive(Clone, Copy)]
 struct Sample {
@@ -148,28 +51,78 @@ struct Sample {
     port: u8,
 }
 
-fn fill(c: Sample, out: &mut [u8]) -> Written {
-    let h = c.header;
-    let capacities = [c.capacity; 528];
-    let counts = [c.count; 4096];
-    let ports = [c.port; 8192];
-    let k = least(capacity_count(h), 528);
-    let s = least(h.slots as usize, 4096);
-    let p = least(2 * (h.arrivals as usize), 8192);
-    trace_write::write(h, &capacities[0..k], &counts[0..s], &ports[0..p], out)
+impl Sample {
+    fn of(header: Header, capacity: u16, count: u16, port: u8) -> Sample {
+        Sample {
+            header,
+            capacity,
+            count,
+            port,
+        }
+    }
+
+    fn write(self, out: &mut [u8]) -> Result<usize, Refusal> {
+        let capacities = [self.capacity; 528];
+        let counts = [self.count; 4096];
+        let ports = [self.port; 8192];
+        let k = layout::lay_out(self.header).map_or(0, |places| places.capacities);
+        let s = self.header.slots as usize;
+        let p = 2 * self.header.arrivals as usize;
+        trace_write::write(
+            self.header,
+            &capacities[..k.min(528)],
+            &counts[..s.min(4096)],
+            &ports[..p.min(8192)],
+            out,
+        )
+    }
 }
 
-// C1 with v in the `width` bytes at a place.
-fn edge(rt: &impl Print, text: &str, at: u16, width: u16, v: u32) {
-    let mut out = [0u8; 66];
-    c1(&mut out);
-    put(&mut out, at, width, v);
-    line(rt, text, v, read(&out, 66));
+impl fmt::Display for Sample {
+    fn fmt<W: fmt::Write>(&self, f: &mut fmt::Formatter<W>) -> fmt::Result {
+        let h = self.header;
+        write!(
+            f,
+            "{}-{}-{}-{}-{}-{}-{}-{}-{}",
+            h.model,
+            h.order,
+            h.ports,
+            h.speedup,
+            h.slots,
+            h.arrivals,
+            self.capacity,
+            self.count,
+            self.port
+        )
+    }
 }
 
-fn edges(rt: &impl Print, text: &str, at: u16, width: u16, values: &[u32]) {
+// C1 with this capacity, from tables of these lengths.
+fn c1_of(capacity: u16, c: usize, s: usize, p: usize, out: &mut [u8]) -> u32 {
+    let capacities = [capacity; 7];
+    let counts = [4u16, 1, 0];
+    let ports = [0u8, 0, 0, 0, 0, 1, 1, 0, 1, 1, 0];
+    refusal_of(trace_write::write(
+        header(1, 1, 2, 1, 2, 5),
+        &capacities[..c.min(7)],
+        &counts[..s.min(3)],
+        &ports[..p.min(11)],
+        out,
+    ))
+}
+
+// C1, 66 bytes.
+fn c1(out: &mut [u8]) -> u32 {
+    c1_of(1, 6, 2, 10, out)
+}
+
+// C1 with each value in the `width` bytes at a place.
+fn edges(rt: &impl Print, text: &str, at: usize, width: usize, values: &[u32]) {
     for v in values {
-        edge(rt, text, at, width, *v);
+        let mut out = [0u8; 66];
+        c1(&mut out);
+        put(&mut out, at, width, *v);
+        let _ = println!(rt; "{text}-{v} {}", read(&out, 66));
     }
 }
 
@@ -205,17 +158,12 @@ fn arrival_edges(rt: &impl Print) {
 }
 
 // C1 with two words changed: the first refusal decides.
-fn pair(rt: &impl Print, a: u16, v: u32, b: u16, w: u32) {
+fn pair(rt: &impl Print, a: usize, v: u32, b: usize, w: u32) {
     let mut out = [0u8; 66];
     c1(&mut out);
     put(&mut out, a, 4, v);
     put(&mut out, b, 4, w);
-    name(rt, "words");
-    dash(rt, a as u32);
-    dash(rt, v);
-    dash(rt, b as u32);
-    dash(rt, w);
-    answer(rt, read(&out, 66));
+    let _ = println!(rt; "words-{a}-{v}-{b}-{w} {}", read(&out, 66));
 }
 
 fn pairs(rt: &impl Print) {
@@ -231,20 +179,11 @@ fn pairs(rt: &impl Print) {
 }
 
 // n bytes of C2, with this total in its header.
-fn c2(rt: &impl Print, n: u8, total: u32) {
+fn c2(rt: &impl Print, n: usize, total: u32) {
     let mut out = [0u8; 45];
-    let c = Sample {
-        header: header(1, 1, 1, 1, 0, 0),
-        capacity: 1,
-        count: 0,
-        port: 0,
-    };
-    fill(c, &mut out);
+    let _ = Sample::of(header(1, 1, 1, 1, 0, 0), 1, 0, 0).write(&mut out);
     put(&mut out, 36, 4, total);
-    name(rt, "c2");
-    dash(rt, n as u32);
-    dash(rt, total);
-    answer(rt, read(&out, n as usize));
+    let _ = println!(rt; "c2-{n}-{total} {}", read(&out, n));
 }
 
 // The last is C3.
@@ -257,17 +196,10 @@ fn c2s(rt: &impl Print) {
     c2(rt, 45, 45);
 }
 
-fn lent(rt: &impl Print, capacity: u16, c: u8, s: u8, p: u8) {
+fn lent(rt: &impl Print, capacity: u16, c: usize, s: usize, p: usize) {
     let mut out = [0u8; 66];
-    name(rt, "lent");
-    dash(rt, capacity as u32);
-    dash(rt, c as u32);
-    dash(rt, s as u32);
-    dash(rt, p as u32);
-    answer(
-        rt,
-        c1_of(capacity, c as usize, s as usize, p as usize, &mut out),
-    );
+    let n = c1_of(capacity, c, s, p, &mut out);
+    let _ = println!(rt; "lent-{capacity}-{c}-{s}-{p} {n}");
 }
 
 fn lengths(rt: &impl Print) {
@@ -282,18 +214,13 @@ fn lengths(rt: &impl Print) {
     lent(rt, 0, 5, 2, 10);
 }
 
-fn c1_within(n: usize, out: &mut [u8]) -> u32 {
-    let m = least(n, out.len());
-    c1(&mut out[0..m])
-}
-
 // C1 into a room of n bytes; the first byte that it leaves there, and the byte behind C1.
-fn room(rt: &impl Print, n: u8) {
+fn room(rt: &impl Print, n: usize) {
     let mut out = [BLANK; 67];
-    let w = c1_within(n as usize, &mut out);
-    line(rt, "room", n as u32, w);
-    line(rt, "room-first", n as u32, byte(&out, 0));
-    line(rt, "room-behind", n as u32, byte(&out, 66));
+    let refused = c1(&mut out[..n.min(67)]);
+    let _ = println!(rt; "room-{n} {refused}");
+    let _ = println!(rt; "room-first-{n} {}", byte(&out, 0));
+    let _ = println!(rt; "room-behind-{n} {}", byte(&out, 66));
 }
 
 fn rooms(rt: &impl Print) {
@@ -304,103 +231,77 @@ fn rooms(rt: &impl Print) {
 }
 
 fn show(rt: &impl Print, text: &str, c: Sample, n: u32) {
-    let h = c.header;
-    name(rt, text);
-    dash(rt, h.model);
-    dash(rt, h.order);
-    dash(rt, h.ports);
-    dash(rt, h.speedup);
-    dash(rt, h.slots);
-    dash(rt, h.arrivals);
-    dash(rt, c.capacity as u32);
-    dash(rt, c.count as u32);
-    dash(rt, c.port as u32);
-    answer(rt, n);
+    let _ = println!(rt; "{text}-{c} {n}");
 }
 
 // A trace that is written and read; read with a byte less and with a byte more, it is refused.
-fn good(rt: &impl Print, header: Header, capacity: u16, count: u16, port: u8) {
-    let c = Sample {
-        header,
-        capacity,
-        count,
-        port,
-    };
+fn good(rt: &impl Print, c: Sample) {
     let mut out = [BLANK; 17481];
-    let w = fill(c, &mut out);
-    let n = least(total(w), 17480);
-    show(rt, "write", c, number(w));
+    let w = c.write(&mut out);
+    let n = w.unwrap_or(0).min(17480);
+    show(rt, "write", c, refusal_of(w));
     show(rt, "bytes", c, n as u32);
     show(rt, "read", c, read(&out, n));
-    show(rt, "short", c, read(&out, less(n)));
+    show(rt, "short", c, read(&out, n.saturating_sub(1)));
     show(rt, "long", c, read(&out, n + 1));
     show(rt, "behind", c, byte(&out, n));
 }
 
 // The first is C2, the last the longest file.
 fn goods(rt: &impl Print) {
-    good(rt, header(1, 1, 1, 1, 0, 0), 1, 0, 0);
-    good(rt, header(2, 0, 1, 1, 0, 0), 1, 0, 0);
-    good(rt, header(1, 2, 2, 16, 2, 4), 1024, 2, 1);
-    good(rt, header(1, 0, 16, 1, 1, 1), 1, 1, 15);
-    good(rt, header(1, 0, 1, 1, 4096, 0), 1, 0, 0);
-    good(rt, header(1, 0, 1, 1, 1, 4096), 1, 4096, 0);
-    good(rt, header(2, 2, 16, 16, 4096, 4096), 1024, 1, 15);
+    good(rt, Sample::of(header(1, 1, 1, 1, 0, 0), 1, 0, 0));
+    good(rt, Sample::of(header(2, 0, 1, 1, 0, 0), 1, 0, 0));
+    good(rt, Sample::of(header(1, 2, 2, 16, 2, 4), 1024, 2, 1));
+    good(rt, Sample::of(header(1, 0, 16, 1, 1, 1), 1, 1, 15));
+    good(rt, Sample::of(header(1, 0, 1, 1, 4096, 0), 1, 0, 0));
+    good(rt, Sample::of(header(1, 0, 1, 1, 1, 4096), 1, 4096, 0));
+    good(
+        rt,
+        Sample::of(header(2, 2, 16, 16, 4096, 4096), 1024, 1, 15),
+    );
 }
 
 // A trace that the writer refuses: it leaves the output as it was.
-fn bad(rt: &impl Print, header: Header, capacity: u16, count: u16, port: u8) {
-    let c = Sample {
-        header,
-        capacity,
-        count,
-        port,
-    };
+fn bad(rt: &impl Print, c: Sample) {
     let mut out = [BLANK; 17480];
-    let w = fill(c, &mut out);
-    show(rt, "write", c, number(w));
+    let w = c.write(&mut out);
+    show(rt, "write", c, refusal_of(w));
     show(rt, "first", c, byte(&out, 0));
 }
 
 fn bad_headers(rt: &impl Print) {
-    bad(rt, header(0, 1, 2, 1, 2, 2), 1, 1, 0);
-    bad(rt, header(3, 1, 2, 1, 2, 2), 1, 1, 0);
-    bad(rt, header(1, 3, 2, 1, 2, 2), 1, 1, 0);
-    bad(rt, header(1, 1, 0, 1, 2, 2), 1, 1, 0);
-    bad(rt, header(1, 1, 17, 1, 2, 2), 1, 1, 0);
-    bad(rt, header(1, 1, 2, 0, 2, 2), 1, 1, 0);
-    bad(rt, header(1, 1, 2, 17, 2, 2), 1, 1, 0);
-    bad(rt, header(1, 1, 2, 1, 4097, 2), 1, 1, 0);
-    bad(rt, header(1, 1, 2, 1, 2, 4097), 1, 1, 0);
+    bad(rt, Sample::of(header(0, 1, 2, 1, 2, 2), 1, 1, 0));
+    bad(rt, Sample::of(header(3, 1, 2, 1, 2, 2), 1, 1, 0));
+    bad(rt, Sample::of(header(1, 3, 2, 1, 2, 2), 1, 1, 0));
+    bad(rt, Sample::of(header(1, 1, 0, 1, 2, 2), 1, 1, 0));
+    bad(rt, Sample::of(header(1, 1, 17, 1, 2, 2), 1, 1, 0));
+    bad(rt, Sample::of(header(1, 1, 2, 0, 2, 2), 1, 1, 0));
+    bad(rt, Sample::of(header(1, 1, 2, 17, 2, 2), 1, 1, 0));
+    bad(rt, Sample::of(header(1, 1, 2, 1, 4097, 2), 1, 1, 0));
+    bad(rt, Sample::of(header(1, 1, 2, 1, 2, 4097), 1, 1, 0));
 }
 
 fn bad_tables(rt: &impl Print) {
     let h = header(1, 1, 2, 1, 2, 2);
-    bad(rt, h, 0, 1, 0);
-    bad(rt, h, 1025, 1, 0);
-    bad(rt, h, 1, 0, 0);
-    bad(rt, h, 1, 2, 0);
-    bad(rt, h, 1, 1, 2);
-    bad(rt, h, 0, 2, 2);
-    bad(rt, h, 1, 2, 2);
+    bad(rt, Sample::of(h, 0, 1, 0));
+    bad(rt, Sample::of(h, 1025, 1, 0));
+    bad(rt, Sample::of(h, 1, 0, 0));
+    bad(rt, Sample::of(h, 1, 2, 0));
+    bad(rt, Sample::of(h, 1, 1, 2));
+    bad(rt, Sample::of(h, 0, 2, 2));
+    bad(rt, Sample::of(h, 1, 2, 2));
 }
 
 // The same into too little room, which is refused last.
-fn cramped(rt: &impl Print, header: Header, capacity: u16, count: u16, port: u8) {
-    let c = Sample {
-        header,
-        capacity,
-        count,
-        port,
-    };
+fn cramped(rt: &impl Print, c: Sample) {
     let mut out = [BLANK; 1];
-    show(rt, "cramped", c, number(fill(c, &mut out)));
+    show(rt, "cramped", c, refusal_of(c.write(&mut out)));
 }
 
 fn all_cramped(rt: &impl Print) {
     let h = header(1, 1, 2, 1, 2, 2);
-    cramped(rt, h, 1, 1, 0);
-    cramped(rt, h, 1, 1, 2);
+    cramped(rt, Sample::of(h, 1, 1, 0));
+    cramped(rt, Sample::of(h, 1, 1, 2));
 }
 
 fn main(rt: HostRuntime) {

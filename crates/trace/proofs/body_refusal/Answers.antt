@@ -1,17 +1,25 @@
--- `trace::body_refusal` meets its contract.
+-- `trace::body_refusal` meets its contract: the tables are judged where they stand.
 -- Assumes nothing.
-use mathlib.Core.Path.{sym, ◌∙◌, ap}
+use Prim.Native.Nat.{ℕ}
+use mathlib.Core.Path.{refl, sym, ◌∙◌, ap}
+use Rattle.base.specs.Refusal.{numbered, judged}
+use Rattle.base.proofs.RefusalLaws.{fails, holds, test_holds, handed_on}
 use Rattle.trace.specs.Reading.{places_right, body_refusal}
-use Rattle.base.proofs.Refusal.{passed, failed}
+use Rattle.trace.proofs.ReadingLaws.{judged_in_place}
 use Rattle.trace.proofs.body_refusal.Goals as goal
 
-pub returns-then-not-places_right : goal.returns-then-not-places_right
-unfolding body_refusal
-returns-then-not-places_right c = sym (failed _ 7 _ (ap (places_right c.args.trace.now) (sym c.requires.1) ∙ sym c.places_right.ensures ∙ c.if-not-places_right.true))
-
-pub tables_refusal-requires : goal.tables_refusal-requires
-tables_refusal-requires c = (c.requires.0, c.requires.1, sym c.places_right.ensures ∙ c.if-not-places_right.false)
+pub returns-in_err-unless : goal.returns-in_err-unless
+unfolding body_refusal numbered
+returns-in_err-unless c =
+    let f = c.args.file in
+    handed_on _ c.from_residual.ensures
+    (fails _ _ _ _ _ 7 _ c.in_err-unless.ensures (c.right.ensures ∙ ap (places_right c.args.trace.now) f.placed) refl)
 
 pub returns : goal.returns
-unfolding body_refusal
-returns c = c.tables_refusal.ensures ∙ sym (passed _ 8 _ (ap (places_right c.args.trace.now) (sym c.requires.1) ∙ sym c.places_right.ensures ∙ c.if-not-places_right.false))
+unfolding body_refusal numbered
+returns c =
+    let f = c.args.file in
+    let right = sym c.right.ensures ∙ test_holds _ _ _ c.in_ok-unless.ensures in
+    c.tables_refusal.ensures
+    ∙ ap (λ (n : ℕ). judged n (tt {0})) (judged_in_place c.args.trace.now f.header f.places right)
+    ∙ holds _ _ _ _ _ 8 _ c.in_ok-unless.ensures (c.right.ensures ∙ ap (places_right c.args.trace.now) f.placed)

@@ -1,30 +1,42 @@
--- `trace::examine` meets its contract: at each way out the chain of refusals stands at that number.
+-- `trace::examine` meets its contract: each test is the definition's, in its order.
 -- Assumes nothing.
-use native.Mathlib.Omega.{arith}
-use mathlib.Core.Path.{sym, ◌∙◌}
-use Rattle.trace.proofs.ReadingLaws.{too_short, header_refused, body_refused, nothing_refused}
-use Rattle.layout.proofs.HeaderLaws.{laid_at}
+use mathlib.Core.Path.{◌≡◌, refl, ap, ◌∙◌}
+use Rattle.std.specs.Prelude.{Ok}
+use Rattle.base.specs.Refusal.{numbered}
+use Rattle.base.proofs.RefusalLaws.{fails, holds, refuses, refused, passes, accepted, handed_on}
+use Rattle.layout.specs.File.{places_in}
+use Rattle.layout.specs.Header.{places_of, laid_out}
+use Rattle.trace.specs.Reading.{header_of, body_refusal, reading, verdict}
 use Rattle.trace.proofs.examine.Goals as goal
 
-pub returns-then-trace-lt40 : goal.returns-then-trace-lt40
-returns-then-trace-lt40 c = sym (too_short c.args.trace.now c.if-trace-lt40.true)
+pub returns-in_err-unless : goal.returns-in_err-unless
+unfolding verdict reading numbered
+returns-in_err-unless c = handed_on _ c.from_residual.ensures (fails _ _ _ _ _ 0 _ c.in_err-unless.ensures refl refl)
 
-pub body_refusal-n-requires : goal.body_refusal-n-requires
-body_refusal-n-requires c = laid_at _ _ (sym c.lay_out.ensures ∙ c.in-At.is)
+pub returns-in_err-file : goal.returns-in_err-file
+unfolding verdict reading laid_out places_in numbered
+returns-in_err-file c =
+    let s = c.args.trace.now in
+    handed_on _ c.from_residual-in_err-file.ensures
+    (refuses (places_of (header_of s)) (header_of s) _ _ (body_refusal s (header_of s)) (rw c.header.ensures at c.in_err-file.ensures.verdict)
+    ∙ holds _ _ _ _ _ 1 _ c.in_ok-unless.ensures refl)
 
-pub returns-then-n-ne0 : goal.returns-then-n-ne0
-returns-then-n-ne0 c = let s = c.args.trace.now in
-    let h = c.header-header in
-    let at = laid_at _ _ (sym c.lay_out.ensures ∙ c.in-At.is) in
-    sym (body_refused s h.result h.ensures (omega arith) _ at.0 c.body_refusal-n.ensures c.if-n-ne0.true)
+pub returns-in_err-body_refusal : goal.returns-in_err-body_refusal
+unfolding verdict reading laid_out places_in numbered
+returns-in_err-body_refusal c =
+    let s = c.args.trace.now in
+    let header : c.in_ok-file.file.header ≡ header_of s = c.in_ok-file.ensures.header ∙ c.header.ensures in
+    handed_on _ c.from_residual-in_err-body_refusal.ensures
+    (refused _ (header_of s) _ (body_refusal s (header_of s)) (rw header at c.in_err-body_refusal.ensures)
+    ∙ passes (places_of (header_of s)) _ _ _ _ (rw c.header.ensures at c.in_ok-file.ensures.verdict)
+    ∙ holds _ _ _ _ _ 1 _ c.in_ok-unless.ensures refl)
 
-pub returns-in-Refused : goal.returns-in-Refused
-returns-in-Refused c = let s = c.args.trace.now in
-    let h = c.header-header in
-    sym (header_refused s h.result h.ensures (omega arith) _ (sym c.lay_out.ensures ∙ c.in-Refused.is))
-
-pub returns-else-n-ne0 : goal.returns-else-n-ne0
-returns-else-n-ne0 c = let s = c.args.trace.now in
-    let h = c.header-header in
-    let at = laid_at _ _ (sym c.lay_out.ensures ∙ c.in-At.is) in
-    sym (nothing_refused s h.result h.ensures (omega arith) at.0 (sym c.body_refusal-n.ensures ∙ c.if-n-ne0.false))
+pub returns : goal.returns
+unfolding verdict reading laid_out places_in numbered
+returns c =
+    let s = c.args.trace.now in
+    let header : c.in_ok-file.file.header ≡ header_of s = c.in_ok-file.ensures.header ∙ c.header.ensures in
+    ap Ok header
+    ∙ accepted _ _ (header_of s) (body_refusal s (header_of s)) (rw header at c.in_ok-body_refusal.ensures)
+    ∙ passes (places_of (header_of s)) _ _ _ _ (rw c.header.ensures at c.in_ok-file.ensures.verdict)
+    ∙ holds _ _ _ _ _ 1 _ c.in_ok-unless.ensures refl
