@@ -10,8 +10,10 @@ use mathlib.Core.Path.{◌≡◌, refl, sym, ap, ap₂, ◌∙◌}
 use mathlib.Core.List.{List, [], ◌∷◌, ◌++◌}
 use lib.ListN.{length, get_or, take, drop, length-drop, take-append-drop}
 use lib.Seq.{take_all, take_at, drop_at, drop-drop, get_or-drop}
+use Rattle.std.specs.Prelude.{Ok}
 use Rattle.base.specs.Below.{list_below}
 use Rattle.base.specs.Digits.{byte, spell}
+use Rattle.base.specs.Refusal.{judged}
 use Rattle.base.proofs.Digits.{length_spell}
 use Rattle.base.proofs.Listed.{length_listed, listed_at, listed_is, listed_bytes}
 use Rattle.base.proofs.Lists.{part_then_rest}
@@ -23,8 +25,7 @@ use Rattle.trace.proofs.Accepting.{model_small, accepted_when, tables_passed}
 use Rattle.layout.proofs.HeaderLaws.{allowed, places_small}
 use Rattle.trace.proofs.ReadingLaws.{Right, right, whole}
 use Rattle.layout.proofs.TablesLaws.{capacities_small, counts_small, tables_alike}
-use Rattle.trace_write.specs.declared.Written.TheVariants.{Filled}
-use Rattle.trace_write.specs.Writing.{lent_refusal, writing, header_words, file, answer_of, out_of, written, written_out}
+use Rattle.trace_write.specs.Writing.{lent_refusal, writing, header_words, file, out_of, written, written_out}
 use Rattle.trace_write.specs.RoundTrip.{capacities_of, slot_counts_of, ports_of, ReadsBack, Rewritten}
 use Rattle.trace_write.proofs.WritingLaws.{Lengths, Writable, writable, none_refused, length_header, length_file}
 
@@ -205,12 +206,12 @@ rewritten s small e room l =
 
 -- the same of the writer's answer and of the output that it leaves: an output with room for the trace starts with it, and the bytes
 -- beyond are as they were
-pub rewritten_out : (s : List ℕ) → ((k : ℕ) → get_or s k 0 < 256) → reading s ≡ 0 → (out : List ℕ) → length s ≤ length out → (written (header_of s) (capacities_of s) (slot_counts_of s) (ports_of s) out ≡ Filled (length s)) × (written_out (header_of s) (capacities_of s) (slot_counts_of s) (ports_of s) out ≡ s ++ drop (length s) out)
-unfolding written written_out answer_of out_of places_of
+pub rewritten_out : (s : List ℕ) → ((k : ℕ) → get_or s k 0 < 256) → reading s ≡ 0 → (out : List ℕ) → length s ≤ length out → (written (header_of s) (capacities_of s) (slot_counts_of s) (ports_of s) out ≡ Ok (length s)) × (written_out (header_of s) (capacities_of s) (slot_counts_of s) (ports_of s) out ≡ s ++ drop (length s) out)
+unfolding written written_out judged out_of places_of
 rewritten_out s small e out l =
     let r = rewritten s small e (length out) l in
     let total : total_of (header_of s) ≡ length s = sym (placed s small e).length in
-    (ap (λ (n : ℕ). answer_of n (header_of s)) r.accepted ∙ ap Filled total, ap₂ (λ (n : ℕ) (f : List ℕ). out_of n f out) r.accepted r.same)
+    (ap (λ (n : ℕ). judged n (total_of (header_of s))) r.accepted ∙ ap Ok total, ap₂ (λ (n : ℕ) (f : List ℕ). out_of n f out) r.accepted r.same)
 
 -- and of what an accepted writing leaves: the first bytes, as many as the total, are the file, which reads back
 pub written_reads_back : (h : Header) (caps counts ports out : List ℕ) → writing h caps counts ports (length out) ≡ 0 → (take (total_of h) (written_out h caps counts ports out) ≡ file h caps counts ports) × ReadsBack h caps counts ports

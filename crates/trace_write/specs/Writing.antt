@@ -1,12 +1,11 @@
 -- Writing a trace (document 01, "The trace file" and "Refusal numbers") from header words and three lent tables.
-use Rattle.std.specs.Prelude.{ℕ, zero, suc, ◌*◌, Bool, ◌&&◌, List, [], ◌∷◌, ◌++◌, length, get_or, drop, leb, eqb}
+use Rattle.std.specs.Prelude.{ℕ, zero, suc, ◌*◌, Bool, ◌&&◌, List, [], ◌∷◌, ◌++◌, length, get_or, drop, leb, eqb, Result}
 use Rattle.base.specs.Digits.{spell}
-use Rattle.base.specs.Refusal.{unless, ◌⨟◌}
+use Rattle.base.specs.declared.Refusal.{Refusal}
+use Rattle.base.specs.Refusal.{unless, ◌⨟◌, judged}
 use Rattle.layout.specs.declared.Header.{Header}
 use Rattle.layout.specs.Header.{header_refusal, capacity_count, capacities_at, slot_counts_at, arrivals_at, total_of}
 use Rattle.layout.specs.Tables.{tables_refusal}
-use Rattle.trace_write.specs.declared.Written.{Written}
-use Rattle.trace_write.specs.declared.Written.TheVariants.{Filled, Refused}
 
 -- each table is as long as the header words make it: the capacities, a count for each slot, two bytes for each arrival
 unfoldable pub lengths_right : Header → List ℕ → List ℕ → List ℕ → Bool
@@ -38,18 +37,14 @@ header_words h =
 unfoldable pub file : Header → List ℕ → List ℕ → List ℕ → List ℕ
 file h caps counts ports = spell 4 (header_words h) ++ (spell 2 caps ++ (spell 2 counts ++ ports))
 
--- the answer for a refusal's number: 0 where the total is filled
-unfoldable pub answer_of : ℕ → Header → Written
-answer_of zero h = Filled (total_of h)
-answer_of (suc n) h = Refused (suc n)
-
 -- what the output holds afterwards: the file and then the bytes beyond as they were, or all of it as it was
 unfoldable pub out_of : ℕ → List ℕ → List ℕ → List ℕ
 out_of zero f out = f ++ drop (length f) out
 out_of (suc n) f out = out
 
-unfoldable pub written : Header → List ℕ → List ℕ → List ℕ → List ℕ → Written
-written h caps counts ports out = answer_of (writing h caps counts ports (length out)) h
+-- the answer: the total where nothing is refused, and else the first refusal
+unfoldable pub written : Header → List ℕ → List ℕ → List ℕ → List ℕ → Result ℕ Refusal
+written h caps counts ports out = judged (writing h caps counts ports (length out)) (total_of h)
 
 unfoldable pub written_out : Header → List ℕ → List ℕ → List ℕ → List ℕ → List ℕ
 written_out h caps counts ports out = out_of (writing h caps counts ports (length out)) (file h caps counts ports) out

@@ -1,123 +1,93 @@
-// What the tables lent to the writer may hold.
-ghost use Rattle.std.specs.Prelude.{◌≡◌, ◌+◌, ◌*◌, ◌≤◌, length, get_or, ltb, leb};
-ghost use Rattle.base.specs.Below.{all_below, sum_below};
-ghost use Rattle.base.specs.Refusal.{unless, ◌⨟◌};
-ghost use Rattle.layout.specs.Header.{header_refusal, places_of};
-ghost use Rattle.layout.specs.Tables.{capacity_allowed};
-ghost use Rattle.trace_write.specs.Writing.{lengths_right, lent_refusal, body_refusal};
+// What is lent to the writer: judged, and written.
+ghost use Rattle.std.specs.Prelude.{◌≡◌, ◌+◌, ◌*◌, ◌≤◌, length, get_or};
+ghost use Rattle.base.specs.Refusal.{judged};
+ghost use Rattle.trace_write.specs.Writing.{lengths_right, body_refusal, header_words, file, out_of};
 
-use layout::{Header, Places};
+use crate::put;
+use base::{Refusal, unless};
+use layout::{File, Tables};
 
-// Entry k of a table, and 0 past its end.
-fn entry(table: &[u16], k: usize) -> u32
-    ensures { (result ≡ get_or table.now k 0) × (result ≤ 65535) }
-{
-    if k < table.len() {
-        return table[k] as u32;
+// The file of an allowed header, and the three tables as they are lent.
+#[derive(Clone, Copy)]
+pub(crate) struct Lent<'a> {
+    pub file: File,
+    pub capacities: &'a [u16],
+    pub counts: &'a [u16],
+    pub ports: &'a [u8],
+}
+
+impl Tables for Lent<'_> {
+    ghost capacities = { λ lent k. get_or lent.capacities.now k 0 };
+
+    ghost counts = { λ lent t. get_or lent.counts.now t 0 };
+
+    ghost ports = { λ lent b. get_or lent.ports.now b 0 };
+
+    fn capacity(&self, k: usize) -> u16 {
+        self.capacities.get(k).copied().unwrap_or(0)
     }
-    0
-}
 
-// Byte b of a table, and 0 past its end.
-fn byte(table: &[u8], b: usize) -> u32
-    ensures { result ≡ get_or table.now b 0 }
-{
-    if b < table.len() {
-        return table[b] as u32;
+    fn count(&self, t: usize) -> u16 {
+        self.counts.get(t).copied().unwrap_or(0)
     }
-    0
-}
 
-// Whether each of the first `count` capacities is allowed.
-fn capacities_allowed(table: &[u16], count: usize) -> bool
-    ensures { result ≡ all_below (λ k. capacity_allowed (get_or table.now k 0)) count }
-{
-    let mut k = 0;
-    while k < count {
-        if !layout::capacity_allowed(entry(table, k)) {
-            return false;
-        }
-        k += 1;
+    fn port(&self, b: usize) -> u8 {
+        self.ports.get(b).copied().unwrap_or(0)
     }
-    true
 }
 
-// The sum of the first `slots` counts.
-fn sum(table: &[u16], slots: u16) -> usize
-    ensures { result ≡ sum_below (λ t. get_or table.now t 0) slots }
-{
-    let end = slots as usize;
-    let mut sum: usize = 0;
-    let mut t: usize = 0;
-    while t < end {
-        sum += entry(table, t) as usize;
-        t += 1;
+impl Lent<'_> {
+    // Whether each table is as long as the header makes it.
+    #[tactic(auto, using(crate::proofs::WritingLaws::capacities_counted), unfolding(crate::specs::Writing::lengths_right))]
+    fn lengths_right(&self) -> bool
+        ensures { result ≡ lengths_right self.now.file.header self.now.capacities.now self.now.counts.now self.now.ports.now }
+    {
+        self.capacities.len() == self.file.places.capacities
+            && self.counts.len() == self.file.header.slots as usize
+            && self.ports.len() == 2 * (self.file.header.arrivals as usize)
     }
-    sum
-}
 
-// Whether each of the first `count` ports is below n.
-fn ports_below(table: &[u8], count: usize, n: u32) -> bool
-    ensures { result ≡ all_below (λ b. ltb (get_or table.now b 0) n) count }
-{
-    let mut b: usize = 0;
-    while b < count {
-        if n <= byte(table, b) {
-            return false;
-        }
-        b += 1;
+    // The refusals 17, 9, 10, 11, 18, of a header whose numbers are allowed.
+    pub fn refusal(&self, room: usize) -> Result<(), Refusal>
+        ensures { result ≡ judged (body_refusal self.now.file.header self.now.capacities.now self.now.counts.now self.now.ports.now room) tt }
+    {
+        unless(self.lengths_right(), Refusal::TableLength)?;
+        layout::tables_refusal(self.file, self)?;
+        unless(self.file.places.total <= room, Refusal::ShortOutput)
     }
-    true
-}
 
-fn lengths_right(
-    header: Header,
-    places: Places,
-    capacities: &[u16],
-    counts: &[u16],
-    ports: &[u8],
-) -> bool
-    requires { (header_refusal header ≡ 0) × (places ≡ places_of header) }
-    ensures { result ≡ lengths_right header capacities.now counts.now ports.now }
-{
-    let first = capacities.len() == places.capacities;
-    let second = counts.len() == header.slots as usize;
-    let third = ports.len() == 2 * (header.arrivals as usize);
-    base::both(first, base::both(second, third))
-}
+    // The header's ten words: its six numbers, the three offsets and the total.
+    #[tactic(auto, using(crate::proofs::WritingLaws::words_placed))]
+    fn words(&self) -> [u32; 10]
+        ensures { result ≡ header_words self.now.file.header }
+    {
+        let (h, p) = (self.file.header, self.file.places);
+        [
+            h.model,
+            h.order,
+            h.ports,
+            h.speedup,
+            h.slots,
+            h.arrivals,
+            40,
+            p.counts as u32,
+            p.arrivals as u32,
+            p.total as u32,
+        ]
+    }
 
-fn tables_refusal(
-    header: Header,
-    places: Places,
-    capacities: &[u16],
-    counts: &[u16],
-    ports: &[u8],
-) -> u32
-    requires { (header_refusal header ≡ 0) × (places ≡ places_of header) }
-    ensures { result ≡ lent_refusal header capacities.now counts.now ports.now }
-{
-    let slots = header.slots as u16;
-    let arrivals = header.arrivals as usize;
-    let nine = base::unless(capacities_allowed(capacities, places.capacities), 9);
-    let ten = base::unless(sum(counts, slots) == arrivals, 10);
-    let eleven = base::unless(ports_below(ports, 2 * arrivals, header.ports), 11);
-    base::first(nine, base::first(ten, eleven))
-}
-
-// The refusals 17, 9, 10, 11, 18, of a header whose numbers are allowed.
-pub(crate) fn refusal(
-    header: Header,
-    places: Places,
-    capacities: &[u16],
-    counts: &[u16],
-    ports: &[u8],
-    room: usize,
-) -> u32
-    requires { (header_refusal header ≡ 0) × (places ≡ places_of header) }
-    ensures { result ≡ body_refusal header capacities.now counts.now ports.now room }
-{
-    let lengths = base::unless(lengths_right(header, places, capacities, counts, ports), 17);
-    let tables = tables_refusal(header, places, capacities, counts, ports);
-    let short = base::unless(places.total <= room, 18);
-    base::first(lengths, base::first(tables, short))
+    // The whole file, from the output's first byte on.
+    pub fn fill(&self, out: &mut [u8])
+        requires capacities { 40 + 2 * length self.now.capacities.now ≡ self.now.file.places.counts }
+        requires counts { self.now.file.places.counts + 2 * length self.now.counts.now ≡ self.now.file.places.arrivals }
+        requires ports { self.now.file.places.arrivals + length self.now.ports.now ≡ self.now.file.places.total }
+        requires room { self.now.file.places.total ≤ length out.old }
+        ensures { out.new ≡ out_of 0 (file self.now.file.header self.now.capacities.now self.now.counts.now self.now.ports.now) out.old }
+    {
+        let p = self.file.places;
+        put::table(&mut out[..40], &self.words());
+        put::table(&mut out[40..p.counts], self.capacities);
+        put::table(&mut out[p.counts..p.arrivals], self.counts);
+        out[p.arrivals..p.total].copy_from_slice(self.ports);
+    }
 }

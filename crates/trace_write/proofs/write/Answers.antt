@@ -1,46 +1,44 @@
 -- `trace_write::write` meets its contract: at each way out the chain of refusals stands at that number.
 -- Assumes nothing.
-use mathlib.Core.Path.{sym, ◌∙◌}
-use Rattle.layout.proofs.HeaderLaws.{laid_at}
-use Rattle.trace_write.proofs.WritingLaws.{refused_by_header, refused_by_body, fillable, filled_out}
+use Rattle.std.proofs.Common.{ap, sym, ◌∙◌, Ok}
+use Rattle.layout.specs.declared.Places.{Places}
+use Rattle.layout.specs.File.{places_in}
+use Rattle.layout.specs.Header.{places_of}
+use Rattle.base.proofs.RefusalLaws.{handed_on}
+use Rattle.trace_write.proofs.WritingLaws.{header_refused, body_refused, kept, fillable, total_answered, filled}
 use Rattle.trace_write.proofs.write.Goals as goal
 
-pub refusal-n-requires : goal.refusal-n-requires
-refusal-n-requires c = laid_at c.args.header _ (sym c.lay_out.ensures ∙ c.in-At.is)
+pub returns-in_err-file-clause-value : goal.returns-in_err-file-clause-value
+unfolding places_in
+returns-in_err-file-clause-value c = handed_on _ c.from_residual.ensures (header_refused _ _ _ _ _ _ c.in_err-file.ensures.verdict)
 
-pub returns-then-n-ne0 : goal.returns-then-n-ne0
-returns-then-n-ne0 c =
-    let all =
-    let a = c.args in
-    refused_by_body a.header a.capacities.now a.counts.now a.ports.now a.out.now c.lay_out.ensures _ _
-    c.in-At.is
-    c.refusal-n.ensures
-    c.if-n-ne0.true
-    in record { value = all.0; out_after = all.1 }
+pub returns-in_err-file-clause-out_after : goal.returns-in_err-file-clause-out_after
+unfolding places_in
+returns-in_err-file-clause-out_after c = kept _ _ _ _ _ _ (header_refused _ _ _ _ _ _ c.in_err-file.ensures.verdict)
+
+pub returns-in_err-refusal-clause-value : goal.returns-in_err-refusal-clause-value
+returns-in_err-refusal-clause-value c =
+    let f = c.in_ok-file in
+    rw (sym f.ensures.header) (handed_on _ c.from_residual-in_err-refusal.ensures (body_refused _ _ _ _ _ _ f.file.allowed c.in_err-refusal.ensures))
+
+pub returns-in_err-refusal-clause-out_after : goal.returns-in_err-refusal-clause-out_after
+returns-in_err-refusal-clause-out_after c =
+    let f = c.in_ok-file in
+    rw (sym f.ensures.header) (kept _ _ _ _ _ _ (body_refused _ _ _ _ _ _ f.file.allowed c.in_err-refusal.ensures))
 
 pub fill-requires : goal.fill-requires
 fill-requires c =
-    let a = c.args in
-    fillable a.header a.capacities.now a.counts.now a.ports.now a.out.now c.lay_out.ensures _ _
-    c.in-At.is
-    c.refusal-n.ensures
-    c.if-n-ne0.false
+    let f = fillable _ _ _ _ _ c.in_ok-file.file.allowed _ c.in_ok-refusal.ensures _ c.in_ok-file.file.placed in
+    record { capacities = f.of_caps; counts = f.of_counts; ports = f.of_ports; room = f.of_room }
 
-pub returns-in-Refused : goal.returns-in-Refused
-returns-in-Refused c =
-    let all =
-    let a = c.args in
-    refused_by_header a.header a.capacities.now a.counts.now a.ports.now a.out.now c.lay_out.ensures _ c.in-Refused.is
-    in record { value = all.0; out_after = all.1 }
+pub returns-clause-value : goal.returns-clause-value
+unfolding places_of
+returns-clause-value c =
+    let f = c.in_ok-file in
+    rw (sym f.ensures.header)
+    (ap (λ (p : Places). Ok p.total) f.file.placed ∙ total_answered _ _ _ _ _ f.file.allowed _ c.in_ok-refusal.ensures)
 
-pub returns-else-n-ne0 : goal.returns-else-n-ne0
-returns-else-n-ne0 c =
-    let all =
-    let a = c.args in
-    filled_out a.header a.capacities.now a.counts.now a.ports.now a.out.now c.lay_out.ensures _ _
-    c.in-At.is
-    c.refusal-n.ensures
-    c.if-n-ne0.false
-    _
-    c.fill.ensures
-    in record { value = all.0; out_after = all.1 }
+pub returns-clause-out_after : goal.returns-clause-out_after
+returns-clause-out_after c =
+    let f = c.in_ok-file in
+    rw (sym f.ensures.header) (c.fill.ensures ∙ filled _ _ _ _ _ f.file.allowed _ c.in_ok-refusal.ensures)

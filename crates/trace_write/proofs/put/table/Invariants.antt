@@ -1,14 +1,8 @@
--- `trace_write::put::table` meets its contract. The invariant: what was passed is stored.
+-- `trace_write::put::table` meets its contract. The invariant: the numbers so far stand in front of what was there.
 -- Assumes nothing.
-use mathlib.Core.Path.{◌≡◌}
-use Prim.Native.Nat.{◌-◌, ◌≤◌}
-use lib.ListN.{length, take}
-use lib.Seq.{sets}
+use Rattle.std.proofs.Common.{◌≡◌, ◌*◌, ◌++◌, take, drop, map}
 use Rattle.base.specs.Digits.{spell}
 use Rattle.trace_write.proofs.put.table.Given as goal
 
 abbrev pub invariant-loop-k : goal.invariant-loop-k
-invariant-loop-k l = (l.k ≤ length l.numbers) × (l.out ≡ sets l.initial.out l.at (spell 2 (take l.k l.numbers)))
-
-abbrev pub decreases-loop-k : goal.decreases-loop-k
-decreases-loop-k l = length l.numbers - l.k
+invariant-loop-k g l = l.out ≡ spell g.row.K (take l.k (map g.T.Number.value l.numbers)) ++ drop (g.row.K * l.k) l.initial.out
