@@ -1,13 +1,16 @@
 -- Queues that are all empty: as the code finds it, by one number that holds the bits of all of them, and what it says of each queue.
 -- Assumes nothing.
-use Prim.Native.Nat.{ℕ, ◌+◌, ◌<◌}
+use Prim.Native.Nat.{ℕ, zero, suc, ◌+◌, ◌≤◌, ◌<◌}
 use native.Mathlib.Numerals.{add-one}
 use native.Mathlib.Omega.{arith}
-use mathlib.Core.Path.{◌≡◌, refl, ap, ◌∙◌}
+use mathlib.Core.Path.{◌≡◌, refl, sym, ap, ◌∙◌}
 use mathlib.Core.Logic.{⊎_elim}
 use mathlib.Core.Bool.{Bool, true, false, ◌&&◌}
-use mathlib.Core.List.{List}
-use lib.ListN.{length, get_or}
+use mathlib.Core.List.{List, [], ◌∷◌}
+use lib.ListN.{length, get_or, take, drop, length-drop}
+use lib.Seq.{take-suc, get_or-drop}
+use Rattle.std.specs.List.{fold}
+use Rattle.std.proofs.lemmas.List.Sums.{fold-append}
 use lib.Bits.{bit_or, or_add_and, and_le_r}
 use lib.Dec.{eqb, ltb}
 use borrow.Author.Tests.{eqb-true, eqb-false, ne_eqb}
@@ -36,6 +39,24 @@ module _ (f : ℕ → ℕ) where
   pub none_more : (k a : ℕ) → eqb a 0 ≡ all_below (λ k. eqb (f k) 0) k → eqb (bit_or a (f k)) 0 ≡ all_below (λ k. eqb (f k) 0) (k + 1)
   unfolding all_below
   none_more k a h = rw add-one (neither a (f k) ∙ ap (λ (t : Bool). t && eqb (f k) 0) h)
+
+-- the bits of the first k numbers of a list, which are the numbers f 0, f 1 and so on
+pub none_of : (f : ℕ → ℕ) (xs : List ℕ) → ((j : ℕ) → j < length xs → get_or xs j 0 ≡ f j) → (k : ℕ) → k ≤ length xs
+    → eqb (fold bit_or 0 (take k xs)) 0 ≡ all_below (λ j. eqb (f j) 0) k
+none_of f xs e zero h = none_yet f
+none_of f xs e (suc k) h =
+    let before = none_of f xs e k (omega arith) in
+    ap (λ (ys : List ℕ). eqb (fold bit_or 0 ys) 0) (take-suc xs k 0 (omega arith))
+    ∙ ap (λ (a : ℕ). eqb a 0) (fold-append bit_or 0 (take k xs) (get_or xs k 0 ∷ []))
+    ∙ ap (λ (x : ℕ). eqb (bit_or (fold bit_or 0 (take k xs)) x) 0) (e k (omega arith))
+    ∙ rw (sym (add-one k)) (none_more f k (fold bit_or 0 (take k xs)) before)
+
+-- the bits of the queues of an input
+pub none_of_row : (l : List ℕ) (i p n : ℕ) → p ≡ place i 0 → p + 16 ≤ length l → n ≡ 16 → eqb (fold bit_or 0 (take n (drop p l))) 0 ≡ all_below (λ j. eqb (get_or l (place i j) 0) 0) 16
+unfolding place
+none_of_row l i p n e h m =
+    rw m
+    (none_of (λ j. get_or l (place i j) 0) (drop p l) (λ j h. get_or-drop p l j 0 ∙ ap (λ (q : ℕ). get_or l q 0) (omega arith)) 16 (omega (arith, length-drop p l)))
 
 -- no packet of the input waits
 pub row_none : (l : List ℕ) (i : ℕ) → row_empty l i ≡ true → (j : ℕ) → j < 16 → waits l (place i j) ≡ false

@@ -1,6 +1,8 @@
 pub mod EmptyLaws
 pub mod LeftLaws
 pub mod LogLaws
+pub mod MoveLaws
+pub mod FoundLaws
 pub mod QueuesLaws
 pub mod TurnPlaces
 pub mod Unique

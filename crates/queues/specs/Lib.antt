@@ -1,9 +1,12 @@
 pub mod Queues
+pub mod Kinds
 pub mod Empty
 pub mod Events
 pub mod Turn
+pub mod Ports
 pub mod Log
 pub mod Flow
+pub mod Found
 pub mod Cioq
 pub mod Crossbar
 pub mod Slot
