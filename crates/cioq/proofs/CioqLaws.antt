@@ -22,7 +22,8 @@ use Rattle.queues.specs.Cioq.{Visits, eligible, is_taken, choice, visited, visit
 use Rattle.queues.specs.Lent.{Left}
 use Rattle.queues.specs.Events.{crossed_at}
 use Rattle.cioq.specs.Visit.{may_take, chosen, Visited, VisitedTo}
-use Rattle.cioq.proofs.LeftLaws.{left_still, left_same, left_flowed}
+use Rattle.queues.proofs.MoveLaws.{left_still}
+use Rattle.cioq.proofs.LeftLaws.{left_same, left_flowed}
 
 -- places of different outputs differ
 places_differ : (i i' j k : ℕ) → j < 16 → k < 16 → j ≢ k → place i' j ≢ place i k
@@ -93,31 +94,16 @@ upto_visited false small p v =
       flagged = λ k l. ap (λ (fs : List Bool). get_or fs k false) v.of_flags ∙ p.flagged k l;
     }
 
-visited_lengths : (inlen outlen : List ℕ) (slot cycle i k : ℕ) (m : Bool) (b : Visits)
-    → (length b.flow.from ≡ length inlen) × (length b.flow.to ≡ length outlen)
-    → (length (visited m b slot cycle i k).flow.from ≡ length inlen) × (length (visited m b slot cycle i k).flow.to ≡ length outlen)
-unfolding visited flowed more fewer
-visited_lengths inlen outlen slot cycle i k true b e = (length-set b.flow.from (place i k) _ ∙ e.0, length-set b.flow.to k _ ∙ e.1)
-visited_lengths inlen outlen slot cycle i k false b e = e
-
 module _ (ports : ℕ) (turn outcap inlen outlen : List ℕ) (slot cycle : ℕ) where
   -- the first u visits
   abbrev pub first : ℕ → Visits
   first u = visits ports turn outcap inlen outlen slot cycle u
 
-  pub lengths_kept : (u : ℕ) → (length (first u).flow.from ≡ length inlen) × (length (first u).flow.to ≡ length outlen)
-  unfolding visits still
-  lengths_kept zero = (refl, refl)
-  lengths_kept (suc u) =
-      let i = get_or turn u 0 in
-      let k = choice ports outcap inlen outlen (first u).taken i in
-      visited_lengths inlen outlen slot cycle i k (ltb k ports) (first u) (lengths_kept u)
-
   -- before the first visit
-  pub upto_none : (log : List ℕ) (at : ℕ) (w : Went) → w.at ≡ at → w.moved ≡ false → Upto (first 0) log at inlen outlen log (replicate 16 false) w
+  pub upto_none : (log : List ℕ) (at : ℕ) → Upto (first 0) log at inlen outlen log (replicate 16 false) (record { at = at; moved = false })
   unfolding visits is_taken
-  upto_none log at w e n =
-      record { left = left_still inlen outlen log at w e n; long = length-replicate 16 false; flagged = λ j h. get_or-replicate 16 j false false h }
+  upto_none log at =
+      record { left = left_still inlen outlen log at; long = length-replicate 16 false; flagged = λ j h. get_or-replicate 16 j false false h }
 
   -- after the last
   pub upto_all : {log : List ℕ} {at : ℕ} {inlen₁ outlen₁ kept₁ : List ℕ} {flags₁ : List Bool} {w : Went} (u : ℕ) → u ≡ length turn

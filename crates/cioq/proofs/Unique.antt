@@ -8,6 +8,6 @@ use Rattle.queues.proofs.LeftLaws.{left_one}
 use Rattle.cioq.proofs.cycle.Kinds as cycle-kinds
 use Rattle.cioq.proofs.cycle.Reads as cycle
 
--- beside the answer: the input queues, the output queues and the log, which are the sixth to the eighth parameter
-pub cycle_one : OneShown 5 cycle-kinds.ps cycle-kinds.r {A = λ κs. Went × List ℕ × List ℕ × List ℕ} (λ κs x d. (x, d.1.1.1.1.1.0.now, d.1.1.1.1.1.1.0.now, d.1.1.1.1.1.1.1.0.now)) cycle.Post
+-- beside the answer: the input queues, the output queues and the log, which are the second to the fourth parameter
+pub cycle_one : OneShown 4 cycle-kinds.ps cycle-kinds.r {A = λ κs. Went × List ℕ × List ℕ × List ℕ} (λ κs x d. (x, d.1.0.now, d.1.1.0.now, d.1.1.1.0.now)) cycle.Post
 cycle_one κs a x y d e = left_one

@@ -1,15 +1,19 @@
 -- One visit: what an input may take, test by test; a chosen output has room; and what a visit leaves by the number that was chosen.
 -- Assumes nothing.
 use Prim.Native.Nat.{ℕ, ◌≤◌, ◌<◌}
-use mathlib.Core.Path.{◌≡◌, refl, sym, subst}
+use mathlib.Core.Path.{◌≡◌, refl, sym, ap, ◌∙◌, subst}
 use mathlib.Core.Bool.{Bool, true, false, not, and-false}
 use mathlib.Core.List.{List}
-use lib.ListN.{get_or}
+use lib.ListN.{get_or, set}
 use borrow.Author.Tests.{lt-ltb, le-ltb}
 use Rattle.base.proofs.Below.{both_true}
 use Rattle.base.proofs.Lowest.{lowest_passes}
 use Rattle.queues.specs.declared.Went.{Went}
-use Rattle.queues.specs.Queues.{place, waits, has_room}
+use Rattle.queues.specs.Queues.{place, waits, has_room, fewer}
+use Rattle.queues.specs.Events.{Event, word, log_of, happened, crossed_at}
+use Rattle.queues.specs.Log.{entered, logged}
+use Rattle.queues.specs.Flow.{still, flowed}
+use Rattle.queues.specs.Lent.{Left}
 use Rattle.queues.specs.Cioq.{eligible}
 use Rattle.cioq.specs.Visit.{may_take, chosen, Visited, VisitedTo}
 
@@ -36,6 +40,21 @@ pub chosen_room : (ports : ℕ) (outcap inlen outlen : List ℕ) (flags : List B
 unfolding chosen
 chosen_room ports outcap inlen outlen flags i h =
     room_of outcap inlen outlen flags i _ (lowest_passes (may_take outcap inlen outlen flags i) ports h)
+
+-- a packet that moved from its queue, with an event
+pub shifted : {slot cycle i j k : ℕ} {e : Event} {inlen outlen : List ℕ} {flags : List Bool} {log : List ℕ} {w : Went} {inlen' outlen' log' : List ℕ} {r : Went}
+    → k ≡ place i j → e ≡ crossed_at slot cycle i j → Left (flowed (still inlen outlen) k j e) inlen' outlen' log log' w.at r
+    → Visited true slot cycle i j inlen outlen flags log w inlen' outlen' (set flags j true) log' r
+unfolding still flowed log_of logged happened
+shifted {slot} {cycle} {i} {j} {inlen = inlen} {log = log} {w = w} p q l =
+    record {
+      of_from = l.of_from ∙ ap (fewer inlen) p;
+      of_to = l.of_to;
+      of_flags = refl;
+      of_log = l.of_log ∙ ap (λ (e : Event). entered log w.at (word e)) q;
+      of_at = l.of_at;
+      of_moved = l.of_moved;
+    }
 
 module _ {slot cycle i : ℕ} {inlen outlen : List ℕ} {flags : List Bool} {log : List ℕ} {w : Went} where
   -- where none was chosen all stays

@@ -17,7 +17,7 @@ use Rattle.queues.specs.Crossbar.{input_part, output_part}
 use Rattle.queues.specs.Slot.{Done, begun, after, matched, cioq_cycle, crossed_over, outmoved_over, crossbar_cycle, cycle_of, cycles, Sendings, sent_one, sendings, free, send_over, closing}
 use Rattle.queues.specs.Lent.{Left, Held, LeftAll}
 use Rattle.slot_laws.proofs.IdleLaws.{idle_rest}
-use Rattle.crossbar.proofs.LeftLaws.{happened_then, log_then, at_then}
+use Rattle.queues.proofs.MoveLaws.{happened_then, log_then, at_then}
 use Rattle.closing.specs.Sent.{Sent, unsent, send_step}
 
 module _ (q : Queues) (ports : ℕ) (turn : List ℕ) (slot cycle : ℕ) {outcap crosscap inlen outlen crosslen : List ℕ} (h : Held q outcap crosscap inlen outlen crosslen) where

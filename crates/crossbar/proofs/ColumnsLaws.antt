@@ -4,12 +4,13 @@
 use Prim.Native.Nat.{ℕ, zero, suc, ◌+◌, ◌*◌, ◌≤◌, ◌<◌}
 use native.Mathlib.Nat.{le_refl, le_trans}
 use native.Mathlib.Omega.{arith}
-use mathlib.Core.Path.{◌≡◌, sym, ◌∙◌}
+use mathlib.Core.Path.{◌≡◌, sym, ap, ◌∙◌}
 use mathlib.Core.Logic.{⊎_elim}
 use mathlib.Core.Bool.{Bool, true, false, ◌&&◌}
-use mathlib.Core.List.{List, [], ◌∷◌}
-use lib.ListN.{length, take, get_or, set, get_or-eq_default}
-use lib.Seq.{get_or-set_same, get_or-set_other}
+use mathlib.Core.List.{List, [], ◌∷◌, ◌++◌}
+use lib.ListN.{length, get_or, set, drop, length-append, length-drop, get_or-append, get_or-eq_default}
+use lib.Seq.{drop-drop, get_or-drop, get_or-set_same, get_or-set_other}
+use Rattle.std.proofs.Math.Seq.{drop-append_seam}
 use lib.Bits.{bit_or, or_add_and, and_le_l, and_le_r}
 use lib.Dec.{eqb, ltb}
 use borrow.Author.Tests.{eqb-true, eqb-false, le-ltb, ltb-false}
@@ -21,7 +22,7 @@ use Rattle.queues.specs.Flow.{Flow, still, flowed}
 use Rattle.queues.specs.Crossbar.{outmover, outmoved_one, outmoves}
 use Rattle.queues.specs.Lent.{Left}
 use Rattle.crossbar.specs.Steps.{outmove_step}
-use Rattle.crossbar.proofs.CrossbarLaws.{outmover_is, outmove_stays}
+use Rattle.crossbar.proofs.CrossbarLaws.{outmove_stays}
 
 neither : (a b : ℕ) → bit_or a b ≡ 0 → (a ≡ 0) × (b ≡ 0)
 neither a b e = (omega (arith, or_add_and a b, and_le_r a b), omega (arith, or_add_and a b, and_le_l a b))
@@ -50,6 +51,22 @@ said_more bits bits' f k within said j h z =
 -- what bits that are none say of the first i rows
 abbrev pub SaidOf : List ℕ → List ℕ → ℕ → Type 0
 SaidOf crosslen bits i = (m j : ℕ) → m < i → j < 16 → get_or bits j 0 ≡ 0 → get_or crosslen (place m j) 0 ≡ 0
+
+-- a row off the front of the crosspoints that are left
+pub row_next : (l rest row next : List ℕ) (n : ℕ) → rest ≡ drop (16 * n) l → rest ≡ row ++ next → length row ≡ 16
+    → (16 * n + 16 ≤ length l) × (next ≡ drop (16 * (n + 1)) l) × ((j : ℕ) → j < 16 → get_or row j 0 ≡ get_or l (place n j) 0)
+unfolding place
+row_next l rest row next n e f long =
+    let g : row ++ next ≡ drop (16 * n) l = sym f ∙ e in
+    let more : 16 * n + 16 ≡ 16 * (n + 1) = omega arith in (
+      omega (arith, ap length g, length-append row next, length-drop (16 * n) l),
+      sym (drop-append_seam row next) ∙ ap (λ (k : ℕ). drop k (row ++ next)) long ∙ ap (drop 16) g ∙ drop-drop 16 (16 * n) l
+          ∙ ap (λ (k : ℕ). drop k l) more,
+      λ j h.
+          let here : 16 * n + j ≡ n * 16 + j = omega arith in
+          sym (get_or-append row next 0 j (omega arith)) ∙ ap (λ (r : List ℕ). get_or r j 0) g ∙ get_or-drop (16 * n) l j 0
+          ∙ ap (λ (k : ℕ). get_or l k 0) here,
+    )
 
 -- one row more
 pub row_more : (crosslen bits : List ℕ) (i : ℕ) → SaidOf crosslen bits i → (m j : ℕ) → m < i + 1 → j < 16 → (get_or bits j 0 ≡ 0) × (get_or crosslen (place i j) 0 ≡ 0)
@@ -100,8 +117,9 @@ module _ (turn outcap crosslen outlen : List ℕ) (slot cycle : ℕ) where
       let empty = ltb-false 0 (get_or crosslen k 0) none in
       rw e (le-ltb 0 (get_or (outmoves turn outcap crosslen outlen slot cycle j).from k 0) (omega arith))
 
-pub outmove_none : (n : ℕ) (turn : List ℕ) → n ≤ length turn → (outcap crosslen outlen : List ℕ) (slot cycle j : ℕ) → ((i : ℕ) → waits crosslen (place i j) ≡ false) → (log : List ℕ) (at : ℕ)
-    → Left (outmove_step (take n turn) outcap (still crosslen outlen) slot cycle j) crosslen outlen log log at (record { at = at; moved = false })
-outmove_none n turn few outcap crosslen outlen slot cycle j none log at =
-    let chosen = sym (outmover_is n turn few crosslen j ∙ lowest_none (λ u. waits crosslen (place (get_or turn u 0) j)) n (λ m h. none (get_or turn m 0))) in
-    outmove_stays n turn few outcap crosslen outlen slot cycle j n chosen (le_refl n) log at
+pub outmove_none : (turn outcap crosslen outlen : List ℕ) (slot cycle j : ℕ) → ((i : ℕ) → waits crosslen (place i j) ≡ false) → (log : List ℕ) (at : ℕ)
+    → Left (outmove_step turn outcap (still crosslen outlen) slot cycle j) crosslen outlen log log at (record { at = at; moved = false })
+unfolding outmover still
+outmove_none turn outcap crosslen outlen slot cycle j none log at =
+    outmove_stays turn outcap crosslen outlen slot cycle j
+    (lowest_none (λ u. waits crosslen (place (get_or turn u 0) j)) (length turn) (λ u h. none (get_or turn u 0))) log at

@@ -4,15 +4,13 @@ use Prim.Native.Nat.{ℕ, ◌+◌, ◌≤◌, ◌<◌}
 use native.Mathlib.Numerals.{add-one}
 use native.Mathlib.Omega.{arith}
 use mathlib.Core.Path.{◌≡◌, refl, sym, ap}
-use mathlib.Core.Bool.{Bool, true, false, ◌&&◌, ◌||◌, and-false}
-use mathlib.Core.List.{List, [], append-nil}
-use lib.ListN.{length, take, get_or}
-use lib.Seq.{length-take-le, get_or-take}
+use mathlib.Core.Bool.{Bool, true, false, ◌&&◌, ◌||◌, and-false, or-false}
+use mathlib.Core.List.{List, append-nil}
+use lib.ListN.{length, get_or}
 use lib.Dec.{ltb}
 use borrow.Author.Tests.{lt-ltb, le-ltb}
-use Rattle.base.specs.Below.{lowest}
 use Rattle.base.proofs.Below.{both_true}
-use Rattle.base.proofs.Lowest.{lowest_passes, lowest_cong}
+use Rattle.base.proofs.Lowest.{lowest_passes}
 use Rattle.queues.specs.declared.Went.{Went}
 use Rattle.queues.specs.Queues.{place, waits, has_room}
 use Rattle.queues.specs.Events.{Event, crossed_at, outmoved_at}
@@ -20,7 +18,7 @@ use Rattle.queues.specs.Flow.{Flow, still, flowed}
 use Rattle.queues.specs.Crossbar.{crossing, crossed_one, crossings, input_part, outmover, outmoved_one, outmoves, output_part}
 use Rattle.queues.specs.Lent.{Left}
 use Rattle.crossbar.specs.Steps.{cross_step, outmove_step}
-use Rattle.crossbar.proofs.LeftLaws.{joined, left_still, left_step}
+use Rattle.queues.proofs.MoveLaws.{joined, left_still, left_step}
 
 -- events added after none
 nothing_more : (b : Flow) → b ≡ joined b (still b.from b.to)
@@ -118,32 +116,21 @@ pub outmove_full : (turn outcap crosslen outlen : List ℕ) (slot cycle j : ℕ)
 unfolding outmove_step outmoved_one still
 outmove_full turn outcap crosslen outlen slot cycle j full log at = rw full (left_still crosslen outlen log at)
 
--- the first n inputs in turn
-module _ (n : ℕ) (turn : List ℕ) (few : n ≤ length turn) where
-  pub first_length : length (take n turn) ≡ n
-  first_length = length-take-le n turn (omega arith)
+-- one output
+module _ (turn outcap crosslen outlen : List ℕ) (slot cycle j : ℕ) where
+  -- input i is the first in turn that has a packet for output j
+  pub outmove_moves : has_room outcap outlen j ≡ true → {i : ℕ} → (outmover turn (still crosslen outlen) j < length turn) × (get_or turn (outmover turn (still crosslen outlen) j) 0 ≡ i)
+      → {crosslen' outlen' log kept : List ℕ} {at : ℕ} {r : Went} → Left (flowed (still crosslen outlen) (place i j) j (outmoved_at slot cycle i j)) crosslen' outlen' log kept at r
+      → Left (outmove_step turn outcap (still crosslen outlen) slot cycle j) crosslen' outlen' log kept at r
+  unfolding outmove_step outmoved_one has_room still
+  outmove_moves room f x = rw (room, lt-ltb _ (length turn) f.0, f.1) x
 
-  -- the first input in turn that has a packet for output j
-  pub outmover_is : (crosslen : List ℕ) (j : ℕ) → outmover (take n turn) (still crosslen []) j ≡ lowest (λ u. waits crosslen (place (get_or turn u 0) j)) n
-  unfolding outmover still
-  outmover_is crosslen j =
-      rw first_length
-      (lowest_cong (λ u. waits crosslen (place (get_or (take n turn) u 0) j)) (λ u. waits crosslen (place (get_or turn u 0) j)) n
-      (λ u h. ap (λ (i : ℕ). waits crosslen (place i j)) (get_or-take n turn u 0 h)))
+  -- no input has one
+  pub outmove_stays : outmover turn (still crosslen outlen) j ≡ length turn → (log : List ℕ) (at : ℕ)
+      → Left (outmove_step turn outcap (still crosslen outlen) slot cycle j) crosslen outlen log log at (record { at = at; moved = false })
+  unfolding outmove_step outmoved_one
+  outmove_stays e log at = rw (le-ltb (outmover turn (still crosslen outlen) j) (length turn) (omega (arith, e)), and-false) (left_still crosslen outlen log at)
 
-  -- one output
-  module _ (outcap crosslen outlen : List ℕ) (slot cycle j u : ℕ) (chosen : u ≡ outmover (take n turn) (still crosslen []) j) where
-    has_outmoved : has_room outcap outlen j ≡ true → u < n
-        → outmove_step (take n turn) outcap (still crosslen outlen) slot cycle j ≡ flowed (still crosslen outlen) (place (get_or turn u 0) j) j (outmoved_at slot cycle (get_or turn u 0) j)
-    unfolding outmove_step outmoved_one outmover still
-    has_outmoved room h = rw (← chosen, first_length, room, lt-ltb u n h, get_or-take n turn u 0 h)
-
-    pub outmove_moves : has_room outcap outlen j ≡ true → u < n → {crosslen' outlen' log kept : List ℕ} {at : ℕ} {r : Went}
-        → Left (flowed (still crosslen outlen) (place (get_or turn u 0) j) j (outmoved_at slot cycle (get_or turn u 0) j)) crosslen' outlen' log kept at r
-        → Left (outmove_step (take n turn) outcap (still crosslen outlen) slot cycle j) crosslen' outlen' log kept at r
-    outmove_moves room h x = rw (has_outmoved room h) x
-
-    pub outmove_stays : n ≤ u → (log : List ℕ) (at : ℕ)
-        → Left (outmove_step (take n turn) outcap (still crosslen outlen) slot cycle j) crosslen outlen log log at (record { at = at; moved = false })
-    unfolding outmove_step outmoved_one outmover still
-    outmove_stays h log at = rw (← chosen, first_length, le-ltb u n h, and-false) (left_still crosslen outlen log at)
+-- what was done, and then nothing
+pub nothing_then : (r : Went) → r ≡ record { at = r.at; moved = r.moved || false }
+nothing_then r = ap (λ (m : Bool). record { at = r.at; moved = m }) (sym (or-false r.moved))

@@ -1,4 +1,3 @@
-pub mod LeftLaws
 pub mod ColumnsLaws
 pub mod CrossbarLaws
 pub mod Unique

@@ -1,55 +1,25 @@
-use Prim.Native.Nat.{ℕ}
-use native.Mathlib.Omega.{arith}
-use mathlib.Core.Path.{◌≡◌, refl, sym, ap, ◌∙◌, subst}
-use lib.ListN.{length, take}
-use lib.Seq.{get_or-take, length-take-le}
-use borrow.Author.Rules.{rules}
-use Rattle.queues.specs.Cioq.{matching}
-use Rattle.queues.specs.Lent.{Left}
-use Rattle.cioq.proofs.LeftLaws.{left_length}
-use Rattle.cioq.proofs.CioqLaws.{upto_none, upto_more, upto_all, lengths_kept}
+-- `cioq::cycle` meets its contract.
+-- Assumes nothing.
+use Rattle.std.proofs.Common.{ℕ, ◌≡◌, List, length, get_or, ap, ◌∙◌, arith}
+use Rattle.queues.specs.Ports.{ports_in, inputs_in}
+use Rattle.cioq.proofs.CioqLaws.{upto_none, upto_more, upto_all}
 use Rattle.cioq.proofs.cycle.Goals as goal
 
-pub loop-u-init : goal.loop-u-init
-loop-u-init c = let a = c.args in
-    let n = c.within-n.result in (
-      search rules,
-      upto_none n (take n a.turn.now) a.outcap.now a.inlen.now a.outlen.now a.slot a.cycle a.log.now a.at _ refl refl,
-    )
+pub loop-i-init : goal.loop-i-init
+loop-i-init c = let a = c.args in
+    let s = a.cycle.slot in
+    rw c.none-went.ensures (upto_none (ports_in s) (inputs_in s) s.outcap.now a.inlen.now a.outlen.now s.number a.cycle.number a.log.now a.at)
 
-pub loop-u-preserved : goal.loop-u-preserved
-loop-u-preserved c = let a = c.args in
-    let n = c.within-n.result in
-    let l = c.loop-u in (
-      omega arith,
-      upto_more n (take n a.turn.now) a.outcap.now a.inlen.now a.outlen.now a.slot a.cycle (omega arith)
-          l.u _ (sym (get_or-take n a.turn.now l.u 0 (omega arith))) l.invariant.1 c.visit-went.ensures,
-    )
-
-pub shape_of-inlen : goal.shape_of-inlen
-shape_of-inlen c = let a = c.args in
-    let n = c.within-n.result in
-    let l = c.loop-u in
-    ap length l.invariant.1.left.of_from
-    ∙ (lengths_kept n (take n a.turn.now) a.outcap.now a.inlen.now a.outlen.now a.slot a.cycle l.u).0
-
-pub shape_of-outlen : goal.shape_of-outlen
-shape_of-outlen c = let a = c.args in
-    let n = c.within-n.result in
-    let l = c.loop-u in
-    ap length l.invariant.1.left.of_to
-    ∙ (lengths_kept n (take n a.turn.now) a.outcap.now a.inlen.now a.outlen.now a.slot a.cycle l.u).1
-
-pub shape_of-log : goal.shape_of-log
-shape_of-log c = left_length c.loop-u.invariant.1.left
+pub loop-i-preserved : goal.loop-i-preserved
+loop-i-preserved c = let a = c.args in
+    let s = a.cycle.slot in
+    let l = c.loop-i in
+    upto_more (ports_in s) (inputs_in s) s.outcap.now a.inlen.now a.outlen.now s.number a.cycle.number (omega arith) l.i-index _
+    (ap (λ (xs : List ℕ). get_or xs l.i-index 0) c.inputs-i-items.ensures) l.invariant c.visit-went.ensures
 
 pub returns : goal.returns
 returns c = let a = c.args in
-    let n = c.within-n.result in
-    let l = c.loop-u in
-    let long : length a.turn.now ≡ 16 = search rules in
-    let whole : length (take n a.turn.now) ≡ n = length-take-le n a.turn.now (omega arith) in
-    subst
-    (λ (n : ℕ). Left (matching n (take n a.turn.now) a.outcap.now a.inlen.now a.outlen.now a.slot a.cycle) l.inlen l.outlen a.log.now l.log a.at l.went)
-    c.within-n.ensures
-    (upto_all n (take n a.turn.now) a.outcap.now a.inlen.now a.outlen.now a.slot a.cycle l.u (omega arith) l.invariant.1)
+    let s = a.cycle.slot in
+    let l = c.loop-i in
+    upto_all (ports_in s) (inputs_in s) s.outcap.now a.inlen.now a.outlen.now s.number a.cycle.number l.i-index
+    (let all : l.i-index ≡ length c.inputs-i-items.result.now = omega (arith, c.loop-i-test.false, l.auto.i-index-end) in all ∙ ap length c.inputs-i-items.ensures) l.invariant

@@ -5,12 +5,12 @@ use Rattle.queues.specs.Events.{sent_at}
 use Rattle.closing.proofs.ClosingLaws.{sends_none, sends_one_lem}
 use Rattle.closing.proofs.send.Goals as goal
 
-pub returns-then-not-some : goal.returns-then-not-some
-returns-then-not-some c = let a = c.args in
-    sends_none a.outlen.now a.slot a.j a.log.now a.at (sym c.waits-some.ensures ∙ c.if-not-some.true)
+pub returns-then-not-waits : goal.returns-then-not-waits
+returns-then-not-waits c = let a = c.args in
+    sends_none a.outlen.now a.slot a.j a.log.now a.at (sym c.waits.ensures ∙ c.if-not-waits.true)
 
 pub returns : goal.returns
 unfolding sent_at
 returns c = let a = c.args in
-    sends_one_lem a.outlen.now a.slot a.j a.log.now a.at (sym c.waits-some.ensures ∙ c.if-not-some.false)
-    c.leave.ensures c.word-w.ensures c.emit.ensures.0 c.emit.ensures.1
+    sends_one_lem a.outlen.now a.slot a.j a.log.now a.at (sym c.waits.ensures ∙ c.if-not-waits.false)
+    c.leave.ensures c.word.ensures c.emit.ensures.0 c.emit.ensures.1

@@ -1,13 +1,14 @@
 -- `crossbar::columns` meets its contract. The invariant: where the bits are none the rows passed are empty.
 -- Assumes nothing.
-use Prim.Native.Nat.{◌-◌, ◌≤◌}
-use mathlib.Core.Path.{◌≡◌}
-use lib.ListN.{length}
+use Rattle.std.proofs.Common.{◌≡◌, ◌*◌, length, drop}
+use Rattle.std.specs.Slice.Iter.{chunks_exact_rest, chunks_exact_size}
 use Rattle.crossbar.proofs.ColumnsLaws.{SaidOf}
 use Rattle.crossbar.proofs.columns.Given as goal
 
-abbrev pub invariant-loop-i : goal.invariant-loop-i
-invariant-loop-i l = (l.i ≤ 16) × (length l.bits ≡ 16) × SaidOf l.crosslen l.bits l.i
-
-abbrev pub decreases-loop-i : goal.decreases-loop-i
-decreases-loop-i l = 16 - l.i
+abbrev pub invariant-loop-row : goal.invariant-loop-row
+invariant-loop-row l = record {
+  size : chunks_exact_size l.row-iterator ≡ 16;
+  rest : chunks_exact_rest l.row-iterator ≡ drop (16 * length l.yielded) l.crosslen;
+  long : length l.bits ≡ 16;
+  said : SaidOf l.crosslen l.bits (length l.yielded);
+}
