@@ -2,8 +2,10 @@
 -- nor is held, and the other two are what was sent and is held further on. And a closing that finds a packet anywhere sends one (progress,
 -- of the slot laws), so what is held falls by at least one, until it is nothing.
 -- Assumes nothing.
-use Prim.Native.Nat.{◌+◌, ◌-◌, ◌≤◌, ◌<◌}
+use Prim.Native.Nat.{ℕ, ◌+◌, ◌-◌, ◌≤◌, ◌<◌}
 use native.Mathlib.Omega.{arith}
+use Rattle.std.proofs.Math.Nat.{min-eq_left}
+use Rattle.queues.specs.declared.Queues.{Queues}
 use mathlib.Core.Path.{◌≡◌}
 use mathlib.Core.Logic.{⊎_elim}
 use mathlib.Core.Bool.{true}
@@ -17,11 +19,32 @@ use Rattle.slot_laws.proofs.ProgressLaws.{Served, closing_sends}
 use Rattle.switch.specs.declared.Switch.{Switch}
 use Rattle.switch.specs.Switch.{packets, held_in, held_out, held_cross, held_all, held, outmoved_kind, advanced}
 use Rattle.switch.specs.Allowed.{switch_allowed}
-use Rattle.switch.specs.Settling.{sent_of, outmoved_of, crossed_of, settled}
+use Rattle.switch.specs.Settling.{sent_of, outmoved_of, crossed_of, counted, counted_within, settled}
 use Rattle.switch.specs.Steps.{close_step}
 use Rattle.switch.proofs.AllowedLaws.{sound}
 use Rattle.switch.proofs.QueuesKept.{queues_served}
 use Rattle.switch.proofs.KeepsLaws.{closing_of, closing_accounts, balanced_all, balanced_crossed, balanced_outmoved}
+
+-- where no more is held than came in, every count fits 32 bits
+pub all_counted : (s : Switch) (slot : ℕ) (q : Queues) → held_all q + s.dropped ≤ s.arrived → s.arrived ≤ 4096 → counted_within s slot q ≡ counted s slot q
+unfolding held_all
+all_counted s slot q h a =
+    let crossed : crossed_of s q ≤ 4294967295 = omega arith in
+    let outmoved : outmoved_of s q ≤ 4294967295 = omega arith in
+    λ i.
+    record {
+      model = s.model;
+      order = s.order;
+      ports = s.ports;
+      speedup = s.speedup;
+      slot = slot;
+      arrived = s.arrived;
+      dropped = s.dropped;
+      crossed = min-eq_left crossed i;
+      outmoved = min-eq_left outmoved i;
+      sent = sent_of s q;
+      queues = q;
+    }
 
 module _ (s : Switch) (z : Sized s.queues) (e : switch_allowed s ≡ true) where
   -- what is left was not dropped

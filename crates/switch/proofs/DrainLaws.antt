@@ -10,16 +10,18 @@ use mathlib.Core.Logic.{◌≢◌, ⊎_elim}
 use mathlib.Core.Bool.{true}
 use lib.Dec.{eqb}
 use borrow.Author.Tests.{leb-true, le-leb, lt-leb, eqb-true, eqb-false, eq-eqb, ne_eqb}
+use Rattle.std.specs.Prelude.{Ok}
+use Rattle.base.specs.Refusal.{judged_with}
 use Rattle.base.proofs.Lowest.{lowest_bound, lowest_passes, lowest_least, lowest_first, lowest_found, lowest_none}
 use Rattle.base.proofs.Order.{le_or_lt}
-use Rattle.base.proofs.Refusal.{unless_zero, chain_zero}
+use Rattle.base.proofs.RefusalLaws.{unless_zero, chain_zero}
 use Rattle.slot_laws.proofs.Balance.{Sized}
 use Rattle.switch.specs.declared.Switch.{Switch}
 use Rattle.switch.specs.declared.Drain.TheVariants.{Empty, NotEmpty}
 use Rattle.switch.specs.Switch.{held}
 use Rattle.switch.specs.Allowed.{switch_allowed}
 use Rattle.switch.specs.Steps.{close_step}
-use Rattle.switch.specs.Draining.{drain_refusal, closings, quiet, drained_as, drain_answer, drain}
+use Rattle.switch.specs.Draining.{drain_refusal, closings, quiet, drained_as, drained, drain}
 use Rattle.switch.proofs.KeepsLaws.{close_keeps}
 use Rattle.switch.proofs.ClosingLaws.{closed_counts, held_falls}
 
@@ -135,17 +137,27 @@ module _ (s : Switch) (limit : ℕ) where
       (unless_zero _ 12 thirteen.0, leb-true _ _ (unless_zero _ 15 sixteen.0), leb-true _ _ (unless_zero _ 14 sixteen.1))
 
   -- a drain that ends empty, and one that does not
-  pub drain_empty : drain_refusal s limit ≡ 0 → quiet s limit ≤ limit → drain s limit ≡ record { answer = Empty (quiet s limit); switch = closings s (quiet s limit) }
-  unfolding drain drain_answer drained_as
-  drain_empty r h = rw (r, le-leb (quiet s limit) limit h)
+  drained_empty : quiet s limit ≤ limit → drained s limit ≡ record { drain = Empty (quiet s limit); switch = closings s (quiet s limit) }
+  unfolding drained drained_as
+  drained_empty h = rw (le-leb (quiet s limit) limit h)
 
-  pub drain_not_empty : drain_refusal s limit ≡ 0 → limit < quiet s limit → drain s limit ≡ record { answer = NotEmpty limit; switch = closings s limit }
-  unfolding drain drain_answer drained_as
-  drain_not_empty r h = rw (r, lt-leb (quiet s limit) limit h)
+  drained_not_empty : limit < quiet s limit → drained s limit ≡ record { drain = NotEmpty limit; switch = closings s limit }
+  unfolding drained drained_as
+  drained_not_empty h = rw (lt-leb (quiet s limit) limit h)
+
+  drain_done : drain_refusal s limit ≡ 0 → drain s limit ≡ Ok (drained s limit)
+  unfolding drain judged_with
+  drain_done r = rw r
+
+  pub drain_empty : drain_refusal s limit ≡ 0 → quiet s limit ≤ limit → drain s limit ≡ Ok (record { drain = Empty (quiet s limit); switch = closings s (quiet s limit) })
+  drain_empty r h = drain_done r ∙ ap Ok (drained_empty h)
+
+  pub drain_not_empty : drain_refusal s limit ≡ 0 → limit < quiet s limit → drain s limit ≡ Ok (record { drain = NotEmpty limit; switch = closings s limit })
+  drain_not_empty r h = drain_done r ∙ ap Ok (drained_not_empty h)
 
 -- what a drain whose limit is no less than what is held ends with
 pub record Drains (s : Switch) (limit : ℕ) : Type 0 where
-  pub answer : drain s limit ≡ record { answer = Empty (quiet s limit); switch = closings s (quiet s limit) }
+  pub answer : drain s limit ≡ Ok (record { drain = Empty (quiet s limit); switch = closings s (quiet s limit) })
   pub few : quiet s limit ≤ held s
   pub empty : held (closings s (quiet s limit)) ≡ 0
   pub least : (n : ℕ) → n < quiet s limit → held (closings s n) ≢ 0
@@ -158,13 +170,13 @@ drain_ends s limit z r h =
     record { answer = drain_empty s limit r within; few = few; empty = quiet_empty s limit within; least = quiet_least s limit }
 
 -- a loop of closings that stops at a switch which holds nothing, and one that stops at its limit
-module _ (s : Switch) (limit n : ℕ) (w : Switch) (may : drain_refusal s limit ≡ 0) (le : n ≤ limit) (at : w ≡ closings s n) (before : (m : ℕ) → m < n → held (closings s m) ≡ 0 → ⊥) where
-  pub ended_empty : held w ≡ 0 → record { answer = Empty n; switch = w } ≡ drain s limit
+module _ (s : Switch) (limit n : ℕ) (w : Switch) (le : n ≤ limit) (at : w ≡ closings s n) (before : (m : ℕ) → m < n → held (closings s m) ≡ 0 → ⊥) where
+  pub ended_empty : held w ≡ 0 → record { drain = Empty n; switch = w } ≡ drained s limit
   ended_empty e =
       let found : quiet s limit ≡ n = quiet_found s limit n le (sym (ap held at) ∙ e) before in
-      rw at (sym (rw found at (drain_empty s limit may (rw found le))))
+      rw at (sym (rw found at (drained_empty s limit (rw found le))))
 
-  pub ended_not_empty : limit ≤ n → (held w ≡ 0 → ⊥) → record { answer = NotEmpty limit; switch = w } ≡ drain s limit
+  pub ended_not_empty : limit ≤ n → (held w ≡ 0 → ⊥) → record { drain = NotEmpty limit; switch = w } ≡ drained s limit
   ended_not_empty ge some =
       let same : n ≡ limit = omega arith in
       let none : quiet s limit ≡ suc limit =
@@ -174,4 +186,4 @@ module _ (s : Switch) (limit n : ℕ) (w : Switch) (may : drain_refusal s limit 
       (λ (over : n ≤ m). λ (z : held (closings s m) ≡ 0). let e : m ≡ n = omega arith in some (ap held at ∙ (rw e at z)))
       (λ (less : m < n). before m less)
       (le_or_lt n m)) in
-      rw (at, same) (sym (drain_not_empty s limit may (rw none (omega arith))))
+      rw (at, same) (sym (drained_not_empty s limit (rw none (omega arith))))

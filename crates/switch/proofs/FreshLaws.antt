@@ -11,7 +11,7 @@ use lib.ListN.{get_or, replicate, length-replicate, get_or-replicate}
 use lib.Dec.{leb, ltb}
 use borrow.Author.Tests.{le-leb, ltb-true}
 use Rattle.base.specs.Below.{list_below}
-use Rattle.base.proofs.Below.{both_true, all_at}
+use Rattle.base.proofs.Below.{both_true, all_at, all_each}
 use Rattle.base.proofs.Listed.{length_listed, listed_at}
 use Rattle.base.proofs.Sums.{total, sum_zero}
 use Rattle.layout.specs.Header.{order_allowed, has_crosspoints, capacity_count}
@@ -23,7 +23,7 @@ use Rattle.slot_laws.proofs.Balance.{Sized}
 use Rattle.switch.specs.Switch.{packets, held_in, held_out, held_cross, held_all, held}
 use Rattle.switch.specs.Allowed.{used_pair, queue_allowed, queues_allowed, switch_allowed}
 use Rattle.switch.specs.Making.{capacity_of_pair, input_capacities, output_capacities, crosspoint_capacities, empty_queues, unused, fresh, nought}
-use Rattle.switch.proofs.QueuesKept.{both, all_each, kind_allowed, cross_used, used_pair_lem, by_kinds}
+use Rattle.switch.proofs.QueuesKept.{both, kind_allowed, cross_used, used_pair_lem, by_kinds}
 use Rattle.switch.proofs.KeepsLaws.{allowed_by_parts}
 
 -- an empty queue, at a used place with a capacity that is allowed, or at one that is not used

@@ -1,9 +1,11 @@
 pub mod AllowedLaws
+pub mod AnswersLaws
 pub mod ClosingLaws
 pub mod DrainLaws
 pub mod FreshLaws
 pub mod KeepsLaws
 pub mod MakingLaws
+pub mod NumbersLaws
 pub mod QueuesKept
 pub mod SettlingLaws
 pub mod StepsLaws

@@ -1,7 +1,6 @@
 -- The crosspoints of a new switch by its model, and what an accepted trace's header says of the ports.
 -- Assumes nothing.
-use Prim.Native.Nat.{ℕ, zero, suc, ◌+◌, ◌*◌, ◌≤◌}
-use native.Mathlib.Omega.{arith}
+use Prim.Native.Nat.{ℕ, ◌+◌, ◌*◌, ◌≤◌}
 use mathlib.Core.Path.{◌≡◌, sym, ap, ◌∙◌, subst}
 use mathlib.Core.Bool.{Bool, true, false, ◌&&◌, cond}
 use mathlib.Core.List.{List}
@@ -10,12 +9,11 @@ use Rattle.base.specs.Below.{list_below}
 use Rattle.base.proofs.Listed.{listed_zeros}
 use Rattle.layout.specs.declared.Header.{Header}
 use Rattle.layout.specs.Header.{has_crosspoints}
-use Rattle.trace.specs.Reading.{header_of, reading, verdict_of, verdict}
-use Rattle.trace.specs.declared.Verdict.TheVariants.{Accepted, Refused as VerdictRefused}
+use Rattle.trace.specs.Reading.{header_of, reading}
 use Rattle.layout.proofs.HeaderLaws.{allowed}
 use Rattle.trace.proofs.ReadingLaws.{whole}
 use Rattle.switch.specs.Allowed.{used_pair}
-use Rattle.switch.specs.Making.{capacity_of_pair, input_capacities, output_capacities, crosspoint_capacities, empty_queues, unused, fresh, nought, made_as, made}
+use Rattle.switch.specs.Making.{capacity_of_pair, input_capacities, output_capacities, crosspoint_capacities, empty_queues, unused, fresh}
 use Rattle.queues.specs.declared.Queues.{Queues}
 use Rattle.switch.specs.declared.Switch.{Switch}
 
@@ -44,20 +42,3 @@ fresh_made s h i o x q w e ei eo ex eq ew =
     unused h.model h.order h.ports h.speedup
     (empty_queues (input_capacities s h.ports) (output_capacities s h.ports) (crosspoint_capacities s h.model h.ports)))
     e
-
--- a new switch by the trace's verdict
-refused_as : (m n : ℕ) (w : Switch) → suc m ≡ n → w ≡ nought → (s : List ℕ) → record { refusal = n; switch = w } ≡ made_as (suc m) s
-unfolding made_as
-refused_as m n w e f s = rw (← e, f)
-
-pub made_refused : (s : List ℕ) (n : ℕ) (w : Switch) → verdict s ≡ VerdictRefused n → w ≡ nought → record { refusal = n; switch = w } ≡ made s
-unfolding made verdict
-made_refused s n w v e = go (reading s) v
-  where
-    go : (m : ℕ) → verdict_of m (header_of s) ≡ VerdictRefused n → record { refusal = n; switch = w } ≡ made_as m s
-    go zero v = let z : Accepted (header_of s) ≡ VerdictRefused n = unfold verdict_of in v in let f : ◌≡◌ {A = ℕ} 0 1 = cc in absurd (omega arith)
-    go (suc m) v = let z : VerdictRefused (suc m) ≡ VerdictRefused n = unfold verdict_of in v in let e' : suc m ≡ n = cc in refused_as m n w e' e s
-
-pub made_accepted : (s : List ℕ) (w : Switch) → reading s ≡ 0 → w ≡ fresh s → record { refusal = 0; switch = w } ≡ made s
-unfolding made made_as
-made_accepted s w r e = rw (r, e)

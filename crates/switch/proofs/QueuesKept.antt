@@ -2,9 +2,9 @@
 -- place is used or not; and with another length it is allowed exactly as long as that too is not above the capacity. So a step that keeps
 -- the capacities and keeps every queue within its own (`Kept`) keeps the queues allowed. Places past the end of a list read as 0.
 -- Assumes nothing.
-use Prim.Native.Nat.{ℕ, zero, suc, ◌/◌, ◌%◌, ◌≤◌, ◌<◌}
+use Prim.Native.Nat.{ℕ, ◌/◌, ◌%◌, ◌≤◌, ◌<◌}
 use native.Mathlib.Omega.{arith}
-use mathlib.Core.Path.{◌≡◌, refl}
+use mathlib.Core.Path.{◌≡◌}
 use mathlib.Core.Logic.{⊎_elim}
 use mathlib.Core.Bool.{Bool, true, false, ◌&&◌, and-eq-true_iff}
 use mathlib.Core.List.{List}
@@ -12,7 +12,7 @@ use lib.ListN.{length, get_or, get_or-eq_default}
 use lib.Dec.{leb, ltb, eqb}
 use borrow.Author.Tests.{leb-true, le-leb, ltb-true, lt-ltb, eqb-true, eq-eqb}
 use Rattle.base.specs.Below.{all_below}
-use Rattle.base.proofs.Below.{both_true, all_at}
+use Rattle.base.proofs.Below.{both_true, all_at, all_each}
 use Rattle.base.proofs.Cases.{true_or_false}
 use Rattle.base.proofs.Order.{le_or_lt}
 use Rattle.layout.specs.Header.{has_crosspoints}
@@ -28,12 +28,6 @@ use Rattle.switch.specs.Allowed.{used_pair, queue_allowed, queues_allowed}
 -- both tests pass
 pub both : (a b : Bool) → a ≡ true → b ≡ true → (a && b) ≡ true
 both a b p q = (and-eq-true_iff a b).1 (p, q)
-
--- a test that passes at each number below n
-pub all_each : (f : ℕ → Bool) (n : ℕ) → ((k : ℕ) → k < n → f k ≡ true) → all_below f n ≡ true
-unfolding all_below
-all_each f zero e = refl
-all_each f (suc n) e = both (all_below f n) (f n) (all_each f n (λ k h. e k (omega arith))) (e n (omega arith))
 
 -- one queue
 pub queue_bound : (used : Bool) (cap len : ℕ) → queue_allowed used cap len ≡ true → len ≤ cap

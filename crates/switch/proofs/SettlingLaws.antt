@@ -1,13 +1,13 @@
 -- What the code's closing leaves, put together: the queues after all cycles and sendings, and the counts found from what they hold.
 -- Assumes nothing.
-use Prim.Native.Nat.{ℕ, zero, suc, ◌+◌, ◌≤◌, ◌<◌, min}
+use Prim.Native.Nat.{ℕ, ◌≤◌, ◌<◌, min}
 use native.Mathlib.Omega.{arith}
-use mathlib.Core.Path.{◌≡◌, refl, sym, ap, ap₂, ◌∙◌}
+use mathlib.Core.Path.{◌≡◌, sym, ap, ap₂, ◌∙◌}
 use mathlib.Core.Bool.{Bool, true}
 use mathlib.Core.List.{List}
 use lib.ListN.{take}
 use borrow.Author.Tests.{ltb-true}
-use Rattle.base.proofs.Refusal.{unless_zero, chain_zero}
+use Rattle.base.proofs.RefusalLaws.{unless_zero, chain_zero}
 use Rattle.queues.specs.declared.Queues.{Queues}
 use Rattle.queues.specs.Turn.{turn, turn_places}
 use Rattle.queues.specs.Slot.{closing}
@@ -15,16 +15,8 @@ use Rattle.queues.proofs.TurnPlaces.{places_in_turn}
 use Rattle.slot_laws.proofs.Balance.{Sized}
 use Rattle.slot_laws.proofs.SlotLaws.{closing_balanced}
 use Rattle.switch.specs.declared.Switch.{Switch}
-use Rattle.switch.specs.declared.Drain.TheVariants.{Refused}
-use Rattle.switch.specs.Draining.{drain_refusal, drain_answer, drain}
-use Rattle.switch.specs.Switch.{held_in, held_out, held_cross, held_all}
 use Rattle.switch.specs.Allowed.{switch_allowed}
-use Rattle.switch.specs.Steps.{close_refusal, close_step, close_answer, close}
-
--- what is held and dropped arrived
-pub held_arrived : (q : Queues) (d a i o x : ℕ) → held_all q + d ≤ a → i ≡ held_in q → o ≡ held_out q → x ≡ held_cross q → i + o + x + d ≤ a
-unfolding held_all
-held_arrived q d a i o x h ei eo ex = rw (ei, eo, ex) h
+use Rattle.switch.specs.Steps.{close_refusal}
 
 -- the closing that the code runs, on the first N of 16 places
 pub same_closing : (crossbar : Bool) (q : Queues) (order ports speedup slot : ℕ) (places : List ℕ) → ports ≤ 16 → places ≡ turn_places order ports slot → closing crossbar q (min ports 16) (take (min ports 16) places) speedup slot ≡ closing crossbar q ports (turn order ports slot) speedup slot
@@ -43,27 +35,6 @@ closed_as crossbar q ports inputs speedup slot i o x z few ei eo ex =
     let k = (closing_balanced ports few inputs slot crossbar q z speedup).kept in
     with_lengths q (closing crossbar q ports inputs speedup slot).queues i o x k.incap k.outcap k.crosscap ei eo ex
 
--- the ways out of a closing
-pub close_refused : (s : Switch) (n : ℕ) → n ≡ close_refusal s → (n ≡ 0 → ⊥) → record { refusal = n; switch = s } ≡ close s
-unfolding close
-close_refused s n e ne = rw (← e) (go n ne)
-  where
-    go : (n : ℕ) → (n ≡ 0 → ⊥) → record { refusal = n; switch = s } ≡ close_answer n s
-    go zero ne = absurd (ne refl)
-    go (suc n) ne = unfold close_answer in refl
-
-pub close_done : (s w : Switch) → close_refusal s ≡ 0 → w ≡ close_step s → record { refusal = 0; switch = w } ≡ close s
-unfolding close close_answer
-close_done s w e f = rw (e, f)
-
 pub may_close : (s : Switch) → close_refusal s ≡ 0 → (switch_allowed s ≡ true) × (s.slot < 8192)
 unfolding close_refusal
 may_close s e = let a = chain_zero _ _ e in (unless_zero _ 12 a.0, ltb-true _ _ (unless_zero _ 14 a.1))
-
-pub drain_refused : (s : Switch) (limit n : ℕ) → n ≡ drain_refusal s limit → (n ≡ 0 → ⊥) → record { answer = Refused n; switch = s } ≡ drain s limit
-unfolding drain
-drain_refused s limit n e ne = rw (← e) (go n ne)
-  where
-    go : (n : ℕ) → (n ≡ 0 → ⊥) → record { answer = Refused n; switch = s } ≡ drain_answer n s limit
-    go zero ne = absurd (ne refl)
-    go (suc n) ne = unfold drain_answer in refl

@@ -1,23 +1,23 @@
--- One arrival as the code makes it: the two counts and the one queue that change, and the ways out of its refusals.
+-- One arrival as the code makes it: the two counts and the one queue that change.
 -- Assumes nothing.
-use Prim.Native.Nat.{ℕ, zero, suc, ◌+◌, ◌<◌}
+use Prim.Native.Nat.{ℕ, ◌+◌, ◌<◌}
 use native.Mathlib.Nat.{add-zero}
 use mathlib.Core.Path.{◌≡◌, refl}
 use mathlib.Core.Bool.{Bool, true, false}
 use mathlib.Core.List.{[], ◌∷◌}
 use borrow.Author.Tests.{ltb-true}
 use Rattle.base.proofs.Below.{both_true}
-use Rattle.base.proofs.Refusal.{unless_zero, chain_zero}
+use Rattle.base.proofs.RefusalLaws.{unless_zero, chain_zero}
 use Rattle.layout.specs.Header.{has_crosspoints}
 use Rattle.queues.specs.declared.Queues.{Queues}
 use Rattle.queues.specs.Queues.{place, has_room, more, lengths}
 use Rattle.queues.specs.Events.{accepted_at, dropped_at, of_kind}
 use Rattle.queues.specs.Slot.{arrival_of, arrival}
 use Rattle.switch.specs.declared.Switch.{Switch}
-use Rattle.switch.specs.declared.Taken.TheVariants.{Accepted, Dropped, Refused}
+use Rattle.switch.specs.declared.Taken.TheVariants.{Accepted, Dropped}
 use Rattle.switch.specs.Switch.{outmoved_kind, advanced}
 use Rattle.switch.specs.Allowed.{switch_allowed}
-use Rattle.switch.specs.Steps.{arrive_refusal, taking, arrive_step, arrive_answer, arrive}
+use Rattle.switch.specs.Steps.{arrive_refusal, taking, arrive_step, arrived}
 
 -- the switch with other counts of arrivals and drops, and other queues
 abbrev pub taken : Switch → ℕ → ℕ → Queues → Switch
@@ -56,25 +56,13 @@ module _ (s : Switch) (i j : ℕ) where
   dropped_step e = rw (e, outmoved_dropped (has_crosspoints s.model) s.slot i j) (simp add-zero)
 
   -- the answers, from the switch that the code made
-  pub accepted_answer : (w : Switch) → has_room s.queues.incap s.queues.inlen (place i j) ≡ true → w ≡ taken s (s.arrived + 1) s.dropped (lengths s.queues (more s.queues.inlen (place i j)) s.queues.outlen s.queues.crosslen) → record { answer = Accepted; switch = w } ≡ arrive_answer 0 s i j
-  unfolding arrive_answer taking
+  pub accepted_answer : (w : Switch) → has_room s.queues.incap s.queues.inlen (place i j) ≡ true → w ≡ taken s (s.arrived + 1) s.dropped (lengths s.queues (more s.queues.inlen (place i j)) s.queues.outlen s.queues.crosslen) → record { taken = Accepted; switch = w } ≡ arrived s i j
+  unfolding arrived taking
   accepted_answer w r e = rw (r, e, ← accepted_step r)
 
-  pub dropped_answer : (w : Switch) → has_room s.queues.incap s.queues.inlen (place i j) ≡ false → w ≡ taken s (s.arrived + 1) (s.dropped + 1) s.queues → record { answer = Dropped; switch = w } ≡ arrive_answer 0 s i j
-  unfolding arrive_answer taking
+  pub dropped_answer : (w : Switch) → has_room s.queues.incap s.queues.inlen (place i j) ≡ false → w ≡ taken s (s.arrived + 1) (s.dropped + 1) s.queues → record { taken = Dropped; switch = w } ≡ arrived s i j
+  unfolding arrived taking
   dropped_answer w r e = rw (r, e, ← dropped_step r)
-
-  pub arrive_refused : (n : ℕ) → n ≡ arrive_refusal s i j → (n ≡ 0 → ⊥) → record { answer = Refused n; switch = s } ≡ arrive s i j
-  unfolding arrive
-  arrive_refused n e ne = rw (← e) (go n ne)
-    where
-      go : (n : ℕ) → (n ≡ 0 → ⊥) → record { answer = Refused n; switch = s } ≡ arrive_answer n s i j
-      go zero ne = absurd (ne refl)
-      go (suc n) ne = unfold arrive_answer in refl
-
-  pub arrive_taken : arrive_refusal s i j ≡ 0 → arrive_answer 0 s i j ≡ arrive s i j
-  unfolding arrive
-  arrive_taken e = rw e
 
   -- fewer than 4,096 arrivals have been taken
   pub more_may_arrive : arrive_refusal s i j ≡ 0 → (switch_allowed s ≡ true) × (i < s.ports) × (j < s.ports) × (s.arrived < 4096)

@@ -5,6 +5,8 @@ use Rattle.switch.proofs.holds.Kinds as holds-kinds
 use Rattle.switch.proofs.holds.Reads as holds
 use Rattle.switch.proofs.refusal.Kinds as refusal-kinds
 use Rattle.switch.proofs.refusal.Reads as refusal
+use Rattle.switch.proofs.Switch.settle.Kinds as settle-kinds
+use Rattle.switch.proofs.Switch.settle.Reads as settle
 use Rattle.switch.proofs.Switch.new.Kinds as new-kinds
 use Rattle.switch.proofs.Switch.new.Reads as new
 use Rattle.switch.proofs.Switch.arrive.Kinds as arrive-kinds
@@ -25,6 +27,9 @@ holds_one κs a x y d e p q =
 
 pub refusal_one : OneAnswer 0 refusal-kinds.ps refusal-kinds.r refusal.Post
 refusal_one κs a x y d e = determined
+
+pub settle_one : OneAnswer 0 settle-kinds.ps settle-kinds.r settle.Post
+settle_one κs a x y d e = determined
 
 pub new_one : OneAnswer 1 new-kinds.ps new-kinds.r new.Post
 new_one κs a x y d e = determined

@@ -1,9 +1,10 @@
 -- Draining (document 01, "Counts and draining"): closes slots without arrivals until the switch is empty or a limit is reached.
-use Rattle.std.specs.Prelude.{ℕ, zero, suc, ◌+◌, Bool, true, false, leb, eqb}
+use Rattle.std.specs.Prelude.{ℕ, zero, suc, ◌+◌, Bool, true, false, Result, leb, eqb}
 use Rattle.base.specs.Below.{lowest}
-use Rattle.base.specs.Refusal.{unless, ◌⨟◌}
+use Rattle.base.specs.declared.Refused.{Refused}
+use Rattle.base.specs.Refusal.{unless, ◌⨟◌, judged_with}
 use Rattle.switch.specs.declared.Switch.{Switch}
-use Rattle.switch.specs.declared.Drain.TheVariants.{Empty, NotEmpty, Refused}
+use Rattle.switch.specs.declared.Drain.TheVariants.{Empty, NotEmpty}
 use Rattle.switch.specs.declared.Drained.{Drained}
 use Rattle.switch.specs.Switch.{held}
 use Rattle.switch.specs.Allowed.{switch_allowed}
@@ -27,12 +28,11 @@ quiet s limit = lowest (λ n. eqb (held (closings s n)) 0) (suc limit)
 
 -- empty, with the count of quiet slots; otherwise not empty, with count equal to the limit. The switch is the one after exactly that many closings
 unfoldable pub drained_as : Bool → Switch → ℕ → ℕ → Drained
-drained_as true s limit n = record { answer = Empty n; switch = closings s n }
-drained_as false s limit n = record { answer = NotEmpty limit; switch = closings s limit }
+drained_as true s limit n = record { drain = Empty n; switch = closings s n }
+drained_as false s limit n = record { drain = NotEmpty limit; switch = closings s limit }
 
-unfoldable pub drain_answer : ℕ → Switch → ℕ → Drained
-drain_answer zero s limit = let n = quiet s limit in drained_as (leb n limit) s limit n
-drain_answer (suc r) s limit = record { answer = Refused (suc r); switch = s }
+unfoldable pub drained : Switch → ℕ → Drained
+drained s limit = let n = quiet s limit in drained_as (leb n limit) s limit n
 
-unfoldable pub drain : Switch → ℕ → Drained
-drain s limit = drain_answer (drain_refusal s limit) s limit
+unfoldable pub drain : Switch → ℕ → Result Drained (Refused Switch)
+drain s limit = judged_with (drain_refusal s limit) (drained s limit) s

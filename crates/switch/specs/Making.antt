@@ -1,12 +1,13 @@
 -- A new switch (document 01, "One slot"): from a trace's header and capacities, or refused by 1 to 11 with every number in it 0. It has slot number 0 and all
 -- places start empty.
-use Rattle.std.specs.Prelude.{ℕ, zero, suc, ◌+◌, ◌*◌, ◌/◌, ◌%◌, ◌&&◌, cond, List, replicate, ltb}
+use Rattle.std.specs.Prelude.{ℕ, ◌+◌, ◌*◌, ◌/◌, ◌%◌, ◌&&◌, cond, List, Result, replicate, ltb}
 use Rattle.base.specs.Below.{list_below}
+use Rattle.base.specs.declared.Refused.{Refused}
+use Rattle.base.specs.Refusal.{judged_with}
 use Rattle.layout.specs.Header.{has_crosspoints}
 use Rattle.trace.specs.Reading.{header_of, capacity, reading}
 use Rattle.queues.specs.declared.Queues.{Queues}
 use Rattle.switch.specs.declared.Switch.{Switch}
-use Rattle.switch.specs.declared.Made.{Made}
 use Rattle.switch.specs.Allowed.{used_pair}
 
 -- the capacities in the file's order: N × N input queues, input by input, then N output queues, then the crosspoints
@@ -62,9 +63,5 @@ fresh s =
 unfoldable pub nought : Switch
 nought = unused 0 0 0 0 (empty_queues (replicate 256 0) (replicate 16 0) (replicate 256 0))
 
-unfoldable pub made_as : ℕ → List ℕ → Made
-made_as zero s = record { refusal = 0; switch = fresh s }
-made_as (suc n) s = record { refusal = suc n; switch = nought }
-
-unfoldable pub made : List ℕ → Made
-made s = made_as (reading s) s
+unfoldable pub made : List ℕ → Result Switch (Refused Switch)
+made s = judged_with (reading s) (fresh s) nought

@@ -1,5 +1,5 @@
--- How the code finds the counts after a closing: from what is held then. That these are the numbers of events is a law (proofs/ClosingLaws).
-use Rattle.std.specs.Prelude.{ℕ, ◌+◌, ◌-◌}
+-- How the code finds the counts of a switch: from what is held. That after a closing these are the numbers of events is a law (proofs/ClosingLaws).
+use Rattle.std.specs.Prelude.{ℕ, ◌+◌, ◌-◌, min}
 use Rattle.queues.specs.declared.Queues.{Queues}
 use Rattle.switch.specs.declared.Switch.{Switch}
 use Rattle.switch.specs.Switch.{held_out, held_cross, held_all}
@@ -14,15 +14,15 @@ outmoved_of s q = sent_of s q + held_out q
 abbrev pub crossed_of : Switch → Queues → ℕ
 crossed_of s q = outmoved_of s q + held_cross q
 
--- the switch after a closing that leaves q
-abbrev pub settled : Switch → Queues → Switch
-settled s q =
+-- the switch with these queues, at a slot number
+abbrev pub counted : Switch → ℕ → Queues → Switch
+counted s slot q =
     record {
       model = s.model;
       order = s.order;
       ports = s.ports;
       speedup = s.speedup;
-      slot = s.slot + 1;
+      slot = slot;
       arrived = s.arrived;
       dropped = s.dropped;
       crossed = crossed_of s q;
@@ -30,3 +30,24 @@ settled s q =
       sent = sent_of s q;
       queues = q;
     }
+
+-- the same in counts of 32 bits: of a switch that is not allowed there may be more
+abbrev pub counted_within : Switch → ℕ → Queues → Switch
+counted_within s slot q =
+    record {
+      model = s.model;
+      order = s.order;
+      ports = s.ports;
+      speedup = s.speedup;
+      slot = slot;
+      arrived = s.arrived;
+      dropped = s.dropped;
+      crossed = min (crossed_of s q) 4294967295;
+      outmoved = min (outmoved_of s q) 4294967295;
+      sent = sent_of s q;
+      queues = q;
+    }
+
+-- the switch after a closing that leaves q
+abbrev pub settled : Switch → Queues → Switch
+settled s q = counted s (s.slot + 1) q

@@ -1,16 +1,16 @@
 -- The two steps (document 01, "One slot"): take one arrival, and close the slot. Each takes the switch as a value and hands the next one back; a
 -- refusal hands it back exactly as it came.
-use Rattle.std.specs.Prelude.{ℕ, zero, suc, ◌+◌, Bool, true, false, ◌&&◌, ltb}
-use Rattle.base.specs.Refusal.{unless, ◌⨟◌}
+use Rattle.std.specs.Prelude.{ℕ, ◌+◌, Bool, true, false, ◌&&◌, Result, ltb}
+use Rattle.base.specs.declared.Refused.{Refused}
+use Rattle.base.specs.Refusal.{unless, ◌⨟◌, judged_with}
 use Rattle.layout.specs.Header.{has_crosspoints}
 use Rattle.queues.specs.Queues.{place, has_room}
 use Rattle.queues.specs.Turn.{turn}
 use Rattle.queues.specs.Slot.{arrival, closing}
 use Rattle.switch.specs.declared.Switch.{Switch}
 use Rattle.switch.specs.declared.Taken.{Taken}
-use Rattle.switch.specs.declared.Taken.TheVariants.{Accepted, Dropped, Refused}
+use Rattle.switch.specs.declared.Taken.TheVariants.{Accepted, Dropped}
 use Rattle.switch.specs.declared.Arrived.{Arrived}
-use Rattle.switch.specs.declared.Closed.{Closed}
 use Rattle.switch.specs.Switch.{advanced}
 use Rattle.switch.specs.Allowed.{switch_allowed}
 
@@ -29,13 +29,11 @@ taking false = Dropped
 unfoldable pub arrive_step : Switch → ℕ → ℕ → Switch
 arrive_step s i j = advanced s (arrival s.queues s.slot i j) s.slot
 
-unfoldable pub arrive_answer : ℕ → Switch → ℕ → ℕ → Arrived
-arrive_answer zero s i j =
-    record { answer = taking (has_room s.queues.incap s.queues.inlen (place i j)); switch = arrive_step s i j }
-arrive_answer (suc n) s i j = record { answer = Refused (suc n); switch = s }
+unfoldable pub arrived : Switch → ℕ → ℕ → Arrived
+arrived s i j = record { taken = taking (has_room s.queues.incap s.queues.inlen (place i j)); switch = arrive_step s i j }
 
-unfoldable pub arrive : Switch → ℕ → ℕ → Arrived
-arrive s i j = arrive_answer (arrive_refusal s i j) s i j
+unfoldable pub arrive : Switch → ℕ → ℕ → Result Arrived (Refused Switch)
+arrive s i j = judged_with (arrive_refusal s i j) (arrived s i j) s
 
 -- closing: 13, 15
 unfoldable pub close_refusal : Switch → ℕ
@@ -48,9 +46,5 @@ close_step s =
     (closing (has_crosspoints s.model) s.queues s.ports (turn s.order s.ports s.slot) s.speedup s.slot)
     (s.slot + 1)
 
-unfoldable pub close_answer : ℕ → Switch → Closed
-close_answer zero s = record { refusal = 0; switch = close_step s }
-close_answer (suc n) s = record { refusal = suc n; switch = s }
-
-unfoldable pub close : Switch → Closed
-close s = close_answer (close_refusal s) s
+unfoldable pub close : Switch → Result Switch (Refused Switch)
+close s = judged_with (close_refusal s) (close_step s) s

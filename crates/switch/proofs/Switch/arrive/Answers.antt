@@ -1,11 +1,25 @@
 -- `switch::Switch::arrive` meets its contract.
 -- Assumes nothing.
-use mathlib.Core.Path.{sym, ◌∙◌}
-use Rattle.switch.proofs.StepsLaws.{arrive_refused, arrive_taken}
+use borrow.Author.Rules.{rules}
+use mathlib.Core.Path.{sym, ap, ◌∙◌}
+use Rattle.std.specs.Prelude.{Ok}
+use Rattle.switch.specs.Steps.{arrive}
+use Rattle.switch.proofs.AnswersLaws.{with_back, refused_by, not_refused, stepped}
 use Rattle.switch.proofs.Switch.arrive.Goals as goal
 
-pub returns-then-n-ne0 : goal.returns-then-n-ne0
-returns-then-n-ne0 c = arrive_refused c.args.self c.args.input c.args.output _ c.arrive_refusal-n.ensures c.if-n-ne0.true
+pub returns-in_err-map_err : goal.returns-in_err-map_err
+unfolding arrive
+returns-in_err-map_err c =
+    let judged = with_back _ c.args.self _ _ _ _ (λ e x p. search rules) c.map_err.ensures.cases c.arrive_refusal.ensures in
+    refused_by _ _ _ _ _ _ c.from_residual.ensures (sym c.in_err-map_err.was ∙ judged)
+
+pub take-requires : goal.take-requires
+take-requires c =
+    let judged = with_back _ c.args.self _ _ _ _ (λ e x p. search rules) c.map_err.ensures.cases c.arrive_refusal.ensures in
+    (not_refused _ _ _ _ (sym c.in_ok-map_err.was ∙ judged)).0
 
 pub returns : goal.returns
-returns c = c.take.ensures ∙ arrive_taken c.args.self c.args.input c.args.output (sym c.arrive_refusal-n.ensures ∙ c.if-n-ne0.false)
+unfolding arrive
+returns c =
+    let judged = with_back _ c.args.self _ _ _ _ (λ e x p. search rules) c.map_err.ensures.cases c.arrive_refusal.ensures in
+    ap Ok c.take.ensures ∙ stepped _ _ _ (not_refused _ _ _ _ (sym c.in_ok-map_err.was ∙ judged)).0

@@ -1,10 +1,25 @@
 -- `switch::Switch::drain` meets its contract.
 -- Assumes nothing.
-use Rattle.switch.proofs.SettlingLaws.{drain_refused}
+use borrow.Author.Rules.{rules}
+use mathlib.Core.Path.{sym, ap, ◌∙◌}
+use Rattle.std.specs.Prelude.{Ok}
+use Rattle.switch.specs.Draining.{drain}
+use Rattle.switch.proofs.AnswersLaws.{with_back, refused_by, not_refused, stepped}
 use Rattle.switch.proofs.Switch.drain.Goals as goal
 
-pub returns-then-n-ne0 : goal.returns-then-n-ne0
-returns-then-n-ne0 c = drain_refused c.args.self c.args.limit _ c.drain_refusal-n.ensures c.if-n-ne0.true
+pub returns-in_err-map_err : goal.returns-in_err-map_err
+unfolding drain
+returns-in_err-map_err c =
+    let judged = with_back _ c.args.self _ _ _ _ (λ e x p. search rules) c.map_err.ensures.cases c.drain_refusal.ensures in
+    refused_by _ _ _ _ _ _ c.from_residual.ensures (sym c.in_err-map_err.was ∙ judged)
+
+pub quiet_slots-requires : goal.quiet_slots-requires
+quiet_slots-requires c =
+    let judged = with_back _ c.args.self _ _ _ _ (λ e x p. search rules) c.map_err.ensures.cases c.drain_refusal.ensures in
+    (not_refused _ _ _ _ (sym c.in_ok-map_err.was ∙ judged)).0
 
 pub returns : goal.returns
-returns c = c.quiet_slots.ensures
+unfolding drain
+returns c =
+    let judged = with_back _ c.args.self _ _ _ _ (λ e x p. search rules) c.map_err.ensures.cases c.drain_refusal.ensures in
+    ap Ok c.quiet_slots.ensures ∙ stepped _ _ _ (not_refused _ _ _ _ (sym c.in_ok-map_err.was ∙ judged)).0
