@@ -1,12 +1,16 @@
 -- The bench cases of document 01 as rows of one table: the bytes of a trace file, the words of log that are lent (each 9 before the run), a drain's limit, and what
 -- is to be found: the refusal's number, the whole lent log after the run, the counts, the loss per thousand, and how a drain at the trace's end
 -- ends. After the paper's cases stand rows that catch the "errors seen in models like this" which they let through.
-use Rattle.std.specs.Prelude.{ℕ, zero, suc, List, [], ◌∷◌, length, replicate}
+use Rattle.std.specs.Prelude.{ℕ, zero, suc, List, [], ◌∷◌, Result, Ok, Err, length, replicate}
+use Rattle.base.specs.declared.Refused.{Refused}
+use Rattle.base.specs.Refusal.{number, refusal_with}
 use Rattle.run.specs.declared.Counts.{Counts}
 use Rattle.run.specs.Run.{whole, running, ran, ran_log}
 use Rattle.loss.specs.Loss.{per_thousand}
+use Rattle.switch.specs.declared.Switch.{Switch}
 use Rattle.switch.specs.declared.Drain.{Drain}
-use Rattle.switch.specs.declared.Drain.TheVariants.{Empty, NotEmpty, Refused}
+use Rattle.switch.specs.declared.Drain.TheVariants.{Empty, NotEmpty}
+use Rattle.switch.specs.declared.Drained.{Drained}
 use Rattle.switch.specs.Draining.{drain}
 
 pub record Found : Type 0 where
@@ -14,7 +18,7 @@ pub record Found : Type 0 where
   pub log : List ℕ
   pub counts : List ℕ
   pub loss : ℕ
-  pub drained : Drain
+  pub drained : Result Drain ℕ
 
 pub record Row : Type 0 where
   pub file : List ℕ
@@ -22,25 +26,36 @@ pub record Row : Type 0 where
   pub limit : ℕ
   pub found : Found
 
--- how a drain at the end of the trace ends; a refused trace has none
-drain_at : ℕ → List ℕ → ℕ → Drain
-drain_at zero s limit = (drain (whole s).switch limit).answer
-drain_at (suc n) s limit = Refused (suc n)
+-- how a drain ends, or its refusal's number
+ends : Result Drained (Refused Switch) → Result Drain ℕ
+ends (Ok d) = Ok d.drain
+ends (Err r) = Err (number r.refusal)
+
+-- the same at the end of the trace; a refused trace has none
+drain_at : ℕ → List ℕ → ℕ → Result Drain ℕ
+drain_at zero s limit = ends (drain (whole s).switch limit)
+drain_at (suc n) s limit = Err (suc n)
+
+-- the counts, also those that a refusal hands back
+counts_in : Result Counts (Refused Counts) → Counts
+counts_in (Ok c) = c
+counts_in (Err r) = r.answer
 
 counts_list : Counts → List ℕ
 counts_list c = c.arrived ∷ c.dropped ∷ c.crossed ∷ c.outmoved ∷ c.sent ∷ c.held ∷ []
 
 -- what the definitions find
 unfoldable pub find : List ℕ → ℕ → ℕ → Found
-unfolding drain_at counts_list
+unfolding ends drain_at counts_in counts_list
 find s room limit =
     let log : List ℕ = replicate room 9 in
     let r = ran s log in
+    let counts = counts_in r in
     record {
-      refusal = r.refusal;
+      refusal = refusal_with r;
       log = ran_log s log;
-      counts = counts_list r.counts;
-      loss = per_thousand r.counts.dropped r.counts.arrived;
+      counts = counts_list counts;
+      loss = per_thousand counts.dropped counts.arrived;
       drained = drain_at (running s (length log)) s limit;
     }
 
@@ -62,7 +77,7 @@ C1 =
                 0x30010010 ∷ 0x50010000 ∷ 0x50010001 ∷ 9 ∷ 9 ∷ 9 ∷ 9 ∷ [];
             counts = 5 ∷ 1 ∷ 3 ∷ 3 ∷ 3 ∷ 1 ∷ [];
             loss = 200;
-            drained = Empty 1;
+            drained = Ok (Empty 1);
           };
     }
 
@@ -81,7 +96,7 @@ C2 =
             log = [];
             counts = 0 ∷ 0 ∷ 0 ∷ 0 ∷ 0 ∷ 0 ∷ [];
             loss = 0;
-            drained = Empty 0;
+            drained = Ok (Empty 0);
           };
     }
 
@@ -100,7 +115,7 @@ C3 =
             log = [];
             counts = 0 ∷ 0 ∷ 0 ∷ 0 ∷ 0 ∷ 0 ∷ [];
             loss = 0;
-            drained = Refused 8;
+            drained = Err 8;
           };
     }
 
@@ -139,7 +154,7 @@ C4-passes =
             log = [];
             counts = 0 ∷ 0 ∷ 0 ∷ 0 ∷ 0 ∷ 0 ∷ [];
             loss = 0;
-            drained = Empty 0;
+            drained = Ok (Empty 0);
           };
     }
 
@@ -158,7 +173,7 @@ C4-refused =
             log = [];
             counts = 0 ∷ 0 ∷ 0 ∷ 0 ∷ 0 ∷ 0 ∷ [];
             loss = 0;
-            drained = Refused 4;
+            drained = Err 4;
           };
     }
 
@@ -177,7 +192,7 @@ C5 =
             log = [];
             counts = 0 ∷ 0 ∷ 0 ∷ 0 ∷ 0 ∷ 0 ∷ [];
             loss = 0;
-            drained = Refused 4;
+            drained = Err 4;
           };
     }
 
@@ -197,7 +212,7 @@ C6-one =
                 0x10000000 ∷ 0x20000000 ∷ 0x30000000 ∷ 0x50000000 ∷ 9 ∷ 9 ∷ [];
             counts = 2 ∷ 1 ∷ 1 ∷ 1 ∷ 1 ∷ 0 ∷ [];
             loss = 500;
-            drained = Empty 0;
+            drained = Ok (Empty 0);
           };
     }
 
@@ -217,7 +232,7 @@ C6-two =
                 0x10000000 ∷ 0x10000000 ∷ 0x30000000 ∷ 0x50000000 ∷ 9 ∷ 9 ∷ [];
             counts = 2 ∷ 0 ∷ 1 ∷ 1 ∷ 1 ∷ 1 ∷ [];
             loss = 0;
-            drained = Empty 1;
+            drained = Ok (Empty 1);
           };
     }
 
@@ -240,7 +255,7 @@ C7 =
                 0x30000100 ∷ 0x30000200 ∷ 0x30000300 ∷ 0x50000000 ∷ 9 ∷ 9 ∷ 9 ∷ 9 ∷ 9 ∷ 9 ∷ 9 ∷ 9 ∷ 9 ∷ [];
             counts = 7 ∷ 0 ∷ 4 ∷ 4 ∷ 1 ∷ 6 ∷ [];
             loss = 0;
-            drained = Empty 3;
+            drained = Ok (Empty 3);
           };
     }
 
@@ -260,7 +275,7 @@ C8 =
                 0x10000000 ∷ 0x30000000 ∷ 0x40000000 ∷ 0x50000000 ∷ [];
             counts = 1 ∷ 0 ∷ 1 ∷ 1 ∷ 1 ∷ 0 ∷ [];
             loss = 0;
-            drained = Empty 0;
+            drained = Ok (Empty 0);
           };
     }
 
@@ -281,7 +296,7 @@ C9-rotating =
                 0x10010000 ∷ 0x10010010 ∷ 0x30010010 ∷ 0x50010000 ∷ 9 ∷ 9 ∷ [];
             counts = 2 ∷ 0 ∷ 1 ∷ 1 ∷ 1 ∷ 1 ∷ [];
             loss = 0;
-            drained = Empty 1;
+            drained = Ok (Empty 1);
           };
     }
 
@@ -302,7 +317,7 @@ C9-lowest =
                 0x10010000 ∷ 0x10010010 ∷ 0x30010000 ∷ 0x50010000 ∷ 9 ∷ 9 ∷ [];
             counts = 2 ∷ 0 ∷ 1 ∷ 1 ∷ 1 ∷ 1 ∷ [];
             loss = 0;
-            drained = Empty 1;
+            drained = Ok (Empty 1);
           };
     }
 
@@ -323,7 +338,7 @@ house =
                 0x10010000 ∷ 0x10010010 ∷ 0x30010000 ∷ 0x50010000 ∷ 9 ∷ 9 ∷ [];
             counts = 2 ∷ 0 ∷ 1 ∷ 1 ∷ 1 ∷ 1 ∷ [];
             loss = 0;
-            drained = Empty 1;
+            drained = Ok (Empty 1);
           };
     }
 
@@ -344,7 +359,7 @@ C10 =
                 9 ∷ 9 ∷ 9 ∷ 9 ∷ 9 ∷ 9 ∷ 9 ∷ 9 ∷ 9 ∷ 9 ∷ 9 ∷ 9 ∷ 9 ∷ 9 ∷ [];
             counts = 0 ∷ 0 ∷ 0 ∷ 0 ∷ 0 ∷ 0 ∷ [];
             loss = 0;
-            drained = Refused 12;
+            drained = Err 12;
           };
     }
 
@@ -364,7 +379,7 @@ C11 =
                 0x10000000 ∷ 0x10000000 ∷ 0x20000000 ∷ 0x30000000 ∷ 0x50000000 ∷ 9 ∷ 9 ∷ 9 ∷ 9 ∷ [];
             counts = 3 ∷ 1 ∷ 1 ∷ 1 ∷ 1 ∷ 1 ∷ [];
             loss = 333;
-            drained = Empty 1;
+            drained = Ok (Empty 1);
           };
     }
 
@@ -386,7 +401,7 @@ C12-none =
                 0x30010010 ∷ 0x50010000 ∷ 0x50010001 ∷ 9 ∷ 9 ∷ 9 ∷ 9 ∷ [];
             counts = 5 ∷ 1 ∷ 3 ∷ 3 ∷ 3 ∷ 1 ∷ [];
             loss = 200;
-            drained = NotEmpty 0;
+            drained = Ok (NotEmpty 0);
           };
     }
 
@@ -408,7 +423,7 @@ C12-one =
                 0x30010010 ∷ 0x50010000 ∷ 0x50010001 ∷ 9 ∷ 9 ∷ 9 ∷ 9 ∷ [];
             counts = 5 ∷ 1 ∷ 3 ∷ 3 ∷ 3 ∷ 1 ∷ [];
             loss = 200;
-            drained = Empty 1;
+            drained = Ok (Empty 1);
           };
     }
 
@@ -429,7 +444,7 @@ gives_up =
                 0x10000000 ∷ 0x10000010 ∷ 0x10000011 ∷ 0x30000000 ∷ 0x30000011 ∷ 0x50000000 ∷ 0x50000001 ∷ 9 ∷ 9 ∷ [];
             counts = 3 ∷ 0 ∷ 2 ∷ 2 ∷ 2 ∷ 1 ∷ [];
             loss = 0;
-            drained = Empty 1;
+            drained = Ok (Empty 1);
           };
     }
 
@@ -449,7 +464,7 @@ full_output =
                 0x10000000 ∷ 0x10000000 ∷ 0x30000000 ∷ 0x50000000 ∷ 9 ∷ 9 ∷ [];
             counts = 2 ∷ 0 ∷ 1 ∷ 1 ∷ 1 ∷ 1 ∷ [];
             loss = 0;
-            drained = Empty 1;
+            drained = Ok (Empty 1);
           };
     }
 
@@ -470,7 +485,7 @@ wraps =
                 0x10010000 ∷ 0x10010011 ∷ 0x30010011 ∷ 0x30010000 ∷ 0x50010000 ∷ 0x50010001 ∷ [];
             counts = 2 ∷ 0 ∷ 2 ∷ 2 ∷ 2 ∷ 0 ∷ [];
             loss = 0;
-            drained = Empty 0;
+            drained = Ok (Empty 0);
           };
     }
 
@@ -491,7 +506,7 @@ crossbar_turn =
                 0x10010000 ∷ 0x10010010 ∷ 0x30010010 ∷ 0x30010000 ∷ 0x40010010 ∷ 0x50010000 ∷ 9 ∷ 9 ∷ [];
             counts = 2 ∷ 0 ∷ 2 ∷ 1 ∷ 1 ∷ 1 ∷ [];
             loss = 0;
-            drained = Empty 1;
+            drained = Ok (Empty 1);
           };
     }
 

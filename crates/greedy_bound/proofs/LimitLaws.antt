@@ -1,16 +1,19 @@
--- The limit of an allowed switch, by its counts: what stands in its output queues is what has been moved to them and not been sent, and all of it is small. And
--- the two ways to answer.
+-- The limit of an allowed switch, by its counts: what stands in its output queues is what has been moved to them and not been sent, and all of it is small.
+-- And the number of a refused one.
 -- Assumes nothing.
-use Prim.Native.Nat.{ℕ, zero, suc, ◌+◌, ◌-◌, ◌*◌, ◌≤◌}
+use Prim.Native.Nat.{◌+◌, ◌-◌, ◌*◌, ◌≤◌}
 use native.Mathlib.Omega.{arith}
 use mathlib.Core.Path.{◌≡◌, refl}
-use Rattle.base.proofs.Refusal.{unless_zero, chain_zero}
+use mathlib.Core.Bool.{true}
+use lib.Dec.{eqb}
+use Rattle.base.specs.Refusal.{unless, ◌⨟◌, refusal_of}
+use Rattle.base.proofs.RefusalLaws.{unless_zero, chain_zero, unless_small, chain_small, number_of_judged}
 use Rattle.switch.specs.declared.Switch.{Switch}
 use Rattle.switch.specs.Switch.{held_all, held}
+use Rattle.switch.specs.Allowed.{switch_allowed}
 use Rattle.switch.proofs.AllowedLaws.{sound}
-use Rattle.greedy_bound.specs.declared.Limited.TheVariants.{AtMost, Refused}
 use Rattle.greedy_bound.specs.Rivalry.{limit_of}
-use Rattle.greedy_bound.specs.Answer.{limit_refusal, limit_as, limit_answer}
+use Rattle.greedy_bound.specs.Answer.{limit_refusal, limit_answer}
 
 module _ (s : Switch) where
   -- what a switch that is not refused has
@@ -28,14 +31,15 @@ module _ (s : Switch) where
       let few = a.few in
       record { moved = omega arith; few = omega arith; limit = omega arith }
 
-  pub limit_refused : (n : ℕ) → n ≡ limit_refusal s → (n ≡ 0 → ⊥) → Refused n ≡ limit_answer s
-  unfolding limit_answer
-  limit_refused n e ne = rw (← e) (go n ne)
-    where
-      go : (n : ℕ) → (n ≡ 0 → ⊥) → Refused n ≡ limit_as n s
-      go zero ne = absurd (ne refl)
-      go (suc n) ne = unfold limit_as in refl
+  pub none_refused : unless (switch_allowed s) 13 ≡ 0 → eqb s.model 1 ≡ true → limit_refusal s ≡ 0
+  unfolding limit_refusal ◌⨟◌
+  none_refused a m = rw (a, m) (unfold unless in refl)
 
-  pub limit_found : (n : ℕ) → limit_refusal s ≡ 0 → n ≡ limit_of s → AtMost n ≡ limit_answer s
-  unfolding limit_answer limit_as
-  limit_found n e f = rw (e, f)
+  -- and the answer's number is the first refusal's
+  limit_small : limit_refusal s ≤ 18
+  unfolding limit_refusal
+  limit_small = chain_small _ _ 18 (unless_small _ 13 18 (omega arith)) (unless_small _ 2 18 (omega arith))
+
+  pub refusal_of_limit : refusal_of (limit_answer s) ≡ limit_refusal s
+  unfolding limit_answer
+  refusal_of_limit = number_of_judged _ (limit_of s) limit_small

@@ -4,13 +4,14 @@
 -- Assumes nothing.
 use Prim.Native.Nat.{ℕ, zero, suc, ◌+◌, ◌*◌, ◌≤◌, ◌<◌}
 use native.Mathlib.Omega.{arith}
-use mathlib.Core.Path.{◌≡◌, refl, ap, subst}
+use mathlib.Core.Path.{◌≡◌, refl, sym, ap, subst}
 use mathlib.Core.Logic.{⊎_elim}
 use mathlib.Core.Bool.{Bool, true, false}
 use mathlib.Core.List.{List}
 use lib.ListN.{get_or}
 use lib.Dec.{leb}
 use borrow.Author.Tests.{leb-true}
+use Rattle.std.specs.Prelude.{Ok}
 use Rattle.base.specs.Below.{sum_below}
 use Rattle.base.proofs.Order.{le_or_lt}
 use Rattle.trace.specs.Reading.{header_of, reading}
@@ -19,7 +20,8 @@ use Rattle.switch.specs.declared.Switch.{Switch}
 use Rattle.switch.specs.declared.Drain.TheVariants.{Empty}
 use Rattle.switch.specs.declared.Drained.{Drained}
 use Rattle.switch.specs.Switch.{packets, held_out, held_all, held}
-use Rattle.switch.specs.Draining.{drain_refusal, closings, quiet, drained_as, drain_answer, drain}
+use Rattle.switch.specs.Draining.{drain_refusal, closings, quiet, drained_as, drained, drain}
+use Rattle.switch.proofs.AnswersLaws.{not_refused}
 use Rattle.switch.proofs.DrainLaws.{quiet_empty}
 use Rattle.run.specs.Run.{slots, whole}
 use Rattle.bound.specs.Switch.{Trace, State}
@@ -52,7 +54,7 @@ none_out w none = omega arith
 -- a drain that ends empty hands back the switch after so many closings, in which nothing is held
 module _ (w : Switch) (most n : ℕ) where
   Emptied : Drained → Type 0
-  Emptied d = d.answer ≡ Empty n → (d.switch ≡ closings w n) × (held (closings w n) ≡ 0)
+  Emptied d = d.drain ≡ Empty n → (d.switch ≡ closings w n) × (held (closings w n) ≡ 0)
 
   by_count : (b : Bool) → leb (quiet w most) most ≡ b → Emptied (drained_as b w most (quiet w most))
   unfolding Emptied drained_as
@@ -61,14 +63,11 @@ module _ (w : Switch) (most n : ℕ) where
       (ap (closings w) q, subst (λ (k : ℕ). held (closings w k) ≡ 0) q (quiet_empty w most (leb-true (quiet w most) most t)))
   by_count false t e = let f : ◌≡◌ {A = ℕ} 0 1 = cc in absurd (omega arith)
 
-  by_refusal : (r : ℕ) → Emptied (drain_answer r w most)
-  unfolding Emptied drain_answer
-  by_refusal zero e = by_count (leb (quiet w most) most) refl e
-  by_refusal (suc r) e = let f : ◌≡◌ {A = ℕ} 0 1 = cc in absurd (omega arith)
-
-  emptied : (drain w most).answer ≡ Empty n → ((drain w most).switch ≡ closings w n) × (held (closings w n) ≡ 0)
-  unfolding Emptied drain
-  emptied = by_refusal (drain_refusal w most)
+  emptied : (d : Drained) → drain w most ≡ Ok d → d.drain ≡ Empty n → (d.switch ≡ closings w n) × (held (closings w n) ≡ 0)
+  unfolding Emptied drain drained
+  emptied d a =
+      let e = (not_refused (drained w most) d w (drain_refusal w most) (sym a)).1 in
+      rw e (by_count (leb (quiet w most) most) refl)
 
 -- an accepted trace of model 1, and a state e of a rival
 module _ (s : List ℕ) (r : reading s ≡ 0) (m : (header_of s).model ≡ 1) (e : State) where
@@ -98,10 +97,10 @@ module _ (s : List ℕ) (r : reading s ≡ 0) (m : (header_of s).model ≡ 1) (e
   three_times_after n none x = rw (limit_where_empty (closings (whole s).switch n) none) at (no_rival_beats_after n x)
 
   -- where a drain ends empty
-  pub three_times_drained : (most n : ℕ) → (drain (whole s).switch most).answer ≡ Empty n → Rival (config_of s) (trace_of s) ((header_of s).slots + n) e
-      → e.sent ≤ 3 * (drain (whole s).switch most).switch.sent
-  three_times_drained most n d x =
-      let w = emptied (whole s).switch most n d in
+  pub three_times_drained : (most n : ℕ) (d : Drained) → drain (whole s).switch most ≡ Ok d → d.drain ≡ Empty n → Rival (config_of s) (trace_of s) ((header_of s).slots + n) e
+      → e.sent ≤ 3 * d.switch.sent
+  three_times_drained most n d a b x =
+      let w = emptied (whole s).switch most n d a b in
       rw w.0 (three_times_after n (none_out (closings (whole s).switch n) w.1) x)
 
   -- whatever the order of visiting, another one for each cycle of each slot, and whichever outputs may send

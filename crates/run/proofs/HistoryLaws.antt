@@ -16,7 +16,7 @@ use Rattle.base.specs.Below.{sum_below}
 use Rattle.base.specs.Refusal.{unless}
 use Rattle.base.proofs.Below.{all_at}
 use Rattle.base.proofs.Order.{le_or_lt}
-use Rattle.base.proofs.Refusal.{passed}
+use Rattle.base.proofs.RefusalLaws.{passed}
 use Rattle.layout.specs.Tables.{ports_below}
 use Rattle.trace.specs.Reading.{header_of, slot_count, port_byte, reading}
 use Rattle.trace.specs.Slots.{arrival_of, before}

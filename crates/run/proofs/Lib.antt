@@ -1,8 +1,10 @@
+pub mod AnswersLaws
 pub mod CountsLaws
 pub mod EndingLaws
 pub mod EnoughLaws
 pub mod FoldLaws
 pub mod HistoryLaws
+pub mod NumbersLaws
 pub mod PassingLaws
 pub mod QuietLaws
 pub mod RoomLaws

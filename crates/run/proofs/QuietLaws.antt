@@ -3,9 +3,10 @@
 -- Assumes nothing.
 use Prim.Native.Nat.{ℕ, ◌+◌, ◌-◌}
 use native.Mathlib.Omega.{arith}
-use mathlib.Core.Path.{◌≡◌, ap}
+use mathlib.Core.Path.{◌≡◌}
 use mathlib.Core.List.{List}
 use borrow.Author.Tests.{le-leb}
+use Rattle.std.specs.Prelude.{Ok}
 use Rattle.base.specs.Refusal.{unless, ◌⨟◌}
 use Rattle.trace.specs.Reading.{reading}
 use Rattle.trace.proofs.SlotsLaws.{slots_few}
@@ -14,7 +15,7 @@ use Rattle.switch.specs.declared.Drained.{Drained}
 use Rattle.switch.specs.Draining.{drain_refusal, closings, quiet, drain}
 use Rattle.switch.proofs.AllowedLaws.{sound}
 use Rattle.switch.proofs.DrainLaws.{closings_keep, Drains, drain_ends}
-use Rattle.run.specs.Run.{whole}
+use Rattle.run.specs.Run.{whole, switch_in}
 use Rattle.run.proofs.HistoryLaws.{whole_allowed}
 
 module _ (s : List ℕ) (r : reading s ≡ 0) where
@@ -32,11 +33,12 @@ module _ (s : List ℕ) (r : reading s ≡ 0) where
       let counts = sound w a.allowed in
       drain_ends w 4096 a.sized drain_taken (omega (arith, counts.arrived, counts.few))
 
-  pub drain_ends_empty : (drain (whole s).switch 4096).answer ≡ Empty (quiet (whole s).switch 4096)
-  drain_ends_empty = ap (λ (d : Drained). d.answer) end_drains.answer
+  pub drain_ends_empty : drain (whole s).switch 4096 ≡ Ok (record { drain = Empty (quiet (whole s).switch 4096); switch = closings (whole s).switch (quiet (whole s).switch 4096) })
+  drain_ends_empty = end_drains.answer
 
   -- by then all that was not dropped has been sent
-  pub drained_sent : (drain (whole s).switch 4096).switch.sent ≡ (whole s).switch.arrived - (whole s).switch.dropped
+  pub drained_sent : (switch_in (λ (d : Drained). d.switch) (drain (whole s).switch 4096)).sent ≡ (whole s).switch.arrived - (whole s).switch.dropped
+  unfolding switch_in
   drained_sent =
       let w = (whole s).switch in
       let a = whole_allowed s r in

@@ -19,9 +19,9 @@ slot_of crossbar q ports turn speedup slot part =
     let d = takings q slot part (length part / 2) in
     after d (closing crossbar d.queues ports turn speedup slot)
 
--- as they are left in the lent input queues and the log
-pub record Taken (d : Done) (inlen log kept : List ℕ) (at : ℕ) (r : Took) : Type 0 where
-  pub of_inlen : inlen ≡ d.queues.inlen
+-- arrivals or a whole slot, `d`, as they are left in the lent queues and the log
+pub record Taken (d : Done) (q : Queues) (log kept : List ℕ) (at : ℕ) (r : Took) : Type 0 where
+  pub of_queues : q ≡ d.queues
   pub of_log : kept ≡ logged log at (log_of d.events)
   pub of_at : r.at ≡ onward (length log) at (length d.events)
   pub of_dropped : r.dropped ≡ of_kind 2 d.events

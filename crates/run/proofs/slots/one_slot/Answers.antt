@@ -1,18 +1,19 @@
 -- `run::slots::one_slot` meets its contract.
 -- Assumes nothing.
-use Prim.Native.Nat.{◌/◌}
-use lib.ListN.{length}
+use borrow.Author.Rules.{rules}
+use mathlib.Core.Path.{refl}
 use Rattle.layout.specs.Header.{has_crosspoints}
-use Rattle.queues.specs.Slot.{Done}
-use Rattle.run.specs.Taking.{takings}
-use Rattle.run.proofs.SlotsLaws.{held_after, slot_left}
+use Rattle.queues.specs.declared.Queues.{Queues}
+use Rattle.queues.specs.Queues.{lengths}
+use Rattle.slot_laws.proofs.Balance.{Sized}
+use Rattle.run.proofs.SlotsLaws.{slot_left}
 use Rattle.run.proofs.slots.one_slot.Goals as goal
 
 pub returns : goal.returns
-unfolding has_crosspoints
-returns c = λ q ec h.
+unfolding has_crosspoints lengths
+returns c =
     let a = c.args in
-    let t = c.take_all-took.ensures q ec h.of_inlen in
-    let d : Done = takings q a.slot a.part.now (length a.part.now / 2) in
-    let l = c.close-next.ensures d.queues (held_after q a.slot a.part.now (length a.part.now / 2) _ _ _ _ _ _ _ _ a.at _ h t) in
-    (slot_left (has_crosspoints a.model) q a.order a.ports a.speedup a.slot a.part.now _ _ _ _ _ a.log.now _ _ a.at _ _ c.requires.1 c.turn-turn.ensures t l, t.of_dropped)
+    let p : Queues = c.take_all-took.new.q in
+    let sized : Sized a.q.now = record { incap = search rules; outcap = search rules; crosscap = search rules; inlen = search rules; outlen = search rules; crosslen = search rules } in
+    let l = c.close-next.ensures p (record { of_outcap = refl; of_crosscap = refl; of_inlen = refl; of_outlen = refl; of_crosslen = refl }) in
+    slot_left (has_crosspoints a.header.model) a.q.now p a.header.order a.header.ports a.header.speedup a.slot a.part.now _ _ _ _ a.log.now _ _ a.at _ _ sized c.requires.1 c.requires.2 c.take_all-took.ensures l

@@ -1,47 +1,42 @@
-use borrow.Author.Rules.{rules}
-use native.Mathlib.Omega.{arith}
-use mathlib.Core.Path.{◌≡◌, refl, ◌∙◌}
-use Prim.Native.Nat.{◌+◌, ◌*◌, ◌/◌, ◌≤◌, ◌<◌}
-use lib.ListN.{length}
-use Rattle.queues.specs.declared.Queues.{Queues}
-use Rattle.run.proofs.TakingLaws.{one_dropped, nothing_taken, taken_more}
-use mathlib.Core.List.{[]}
-use lib.ListN.{get_or}
+use Rattle.std.proofs.Common.{◌+◌, ◌<◌, length, get_or, [], ◌∷◌, arith, ap, ◌∙◌}
+use lib.ListN.{length-append}
+use Rattle.std.specs.Slice.Iter.{chunks_exact_rest, chunks_exact_size}
+use Rattle.run.proofs.TakingLaws.{nothing_taken, one_dropped, pair_next, taken_more}
 use Rattle.run.proofs.taking.take_all.Goals as goal
 
-pub loop-k-init : goal.loop-k-init
-loop-k-init c = (search rules, refl, refl, search rules, λ q ec el. nothing_taken q _ _ _ _ _ el)
+pub loop-pair-init : goal.loop-pair-init
+loop-pair-init c =
+    let i = c.into_iter-pair-iterator.ensures.into_iter_gives in
+    record {
+      size = ap chunks_exact_size i ∙ c.chunks_exact-pair-items.ensures.size;
+      rest = ap chunks_exact_rest i ∙ c.chunks_exact-pair-items.ensures.rest;
+      few = omega arith;
+      taken = nothing_taken _ _ _ _ _;
+    }
 
-pub overflow_add-dropped : goal.overflow_add-dropped
-overflow_add-dropped c = let a = c.args in
-    let l = c.loop-k in
-    let q : Queues = (record { incap = c.args.incap.now; outcap = []; crosscap = []; inlen = l.inlen; outlen = []; crosslen = [] }) in
-    let d : c.take_one-took.result.dropped ≤ 1 = rw (c.take_one-took.ensures q refl refl).of_dropped (one_dropped q a.slot (get_or a.part.now (2 * l.k) 0) (get_or a.part.now (2 * l.k + 1) 0)) in
-    let few : l.dropped ≤ l.k = l.invariant.3 in
-    let n : length a.part.now ≤ 131072 = c.requires in
-    let s : l.dropped + c.take_one-took.result.dropped < 4294967296 = omega arith in
-    record { fits = s }
+pub overflow_add-took : goal.overflow_add-took
+overflow_add-took c =
+    let l = c.loop-pair in
+    let s = c.in-Some.ensures.steps in
+    let p = pair_next c.args.part.now _ _ _ (length l.yielded) l.invariant.rest s.1.0 (s.1.1 ∙ l.invariant.size) in
+    let one = one_dropped l.q c.args.slot (get_or c.in-Some.pair.now 0 0) (get_or c.in-Some.pair.now 1 0) in
+    let dropped = c.take_one-one.ensures.of_dropped in
+    let fits : l.took.dropped + c.take_one-one.result.dropped < 4294967296 = omega (arith, l.invariant.few, p.0, c.requires) in
+    record { fits = fits }
 
-pub loop-k-preserved : goal.loop-k-preserved
-loop-k-preserved c = let a = c.args in
-    let l = c.loop-k in
-    let q : Queues = (record { incap = c.args.incap.now; outcap = []; crosscap = []; inlen = l.inlen; outlen = []; crosslen = [] }) in
-    let d : c.take_one-took.result.dropped ≤ 1 = rw (c.take_one-took.ensures q refl refl).of_dropped (one_dropped q a.slot (get_or a.part.now (2 * l.k) 0) (get_or a.part.now (2 * l.k + 1) 0)) in (
-      omega arith,
-      c.take_one-took.auto.inlen ∙ l.invariant.1,
-      c.take_one-took.auto.log ∙ l.invariant.2,
-      omega (arith, l.invariant.3),
-      λ q ec el. taken_more q a.slot a.part.now a.incap.now l.inlen _ a.log.now l.log _ l.k a.at (record { at = l.place; dropped = l.dropped }) c.take_one-took.result ec (l.invariant.4 q ec el) c.take_one-took.ensures,
-    )
-
-pub shape_of-inlen : goal.shape_of-inlen
-shape_of-inlen c = c.loop-k.invariant.1
-
-pub shape_of-log : goal.shape_of-log
-shape_of-log c = c.loop-k.invariant.2
-
-pub returns : goal.returns
-returns c = let a = c.args in
-    let l = c.loop-k in
-    let e : l.k ≡ length a.part.now / 2 = omega arith in
-    λ q ec el. rw e at (l.invariant.4 q ec el)
+pub loop-pair-preserved : goal.loop-pair-preserved
+loop-pair-preserved c =
+    let l = c.loop-pair in
+    let a = c.args in
+    let s = c.in-Some.ensures.steps in
+    let p = pair_next a.part.now _ _ _ (length l.yielded) l.invariant.rest s.1.0 (s.1.1 ∙ l.invariant.size) in
+    let few = one_dropped l.q a.slot (get_or c.in-Some.pair.now 0 0) (get_or c.in-Some.pair.now 1 0) in
+    let one = c.take_one-one.ensures in
+    let dropped = one.of_dropped in
+    record {
+      size = s.0 ∙ l.invariant.size;
+      rest = rw length-append p.1;
+      few = omega (arith, length-append l.yielded (c.in-Some.pair ∷ []), l.invariant.few);
+      taken = rw length-append (taken_more a.q.now l.q _ a.slot a.part.now a.log.now l.log _ (length l.yielded) a.at l.took c.take_one-one.result l.invariant.taken
+          (rw (p.2, p.3) at one));
+    }

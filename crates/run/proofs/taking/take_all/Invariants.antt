@@ -1,14 +1,14 @@
--- `run::taking::take_all` meets its contract. The invariant: what the arrivals passed leave, whatever else the switch holds.
+-- `run::taking::take_all` meets its contract. The invariant: what the arrivals passed leave.
 -- Assumes nothing.
-use mathlib.Core.Path.{◌≡◌}
-use Prim.Native.Nat.{◌-◌, ◌≤◌}
-use lib.ListN.{length}
-use Rattle.queues.specs.declared.Queues.{Queues}
+use Rattle.std.proofs.Common.{◌≡◌, ◌≤◌, ◌*◌, length, drop}
+use Rattle.std.specs.Slice.Iter.{chunks_exact_rest, chunks_exact_size}
 use Rattle.run.specs.Taking.{takings, Taken}
 use Rattle.run.proofs.taking.take_all.Given as goal
 
-abbrev pub invariant-loop-k : goal.invariant-loop-k
-invariant-loop-k l = (l.k ≤ l.n) × (length l.inlen ≡ length l.initial.inlen) × (length l.log ≡ length l.initial.log) × (l.dropped ≤ l.k) × ((q : Queues) → l.incap ≡ q.incap → l.initial.inlen ≡ q.inlen → Taken (takings q l.slot l.part l.k) l.inlen l.initial.log l.log l.at (record { at = l.place; dropped = l.dropped }))
-
-abbrev pub decreases-loop-k : goal.decreases-loop-k
-decreases-loop-k l = l.n - l.k
+abbrev pub invariant-loop-pair : goal.invariant-loop-pair
+invariant-loop-pair l = record {
+  size : chunks_exact_size l.pair-iterator ≡ 2;
+  rest : chunks_exact_rest l.pair-iterator ≡ drop (2 * length l.yielded) l.part;
+  few : l.took.dropped ≤ length l.yielded;
+  taken : Taken (takings l.initial.q l.slot l.part (length l.yielded)) l.q l.initial.log l.log l.at l.took;
+}
