@@ -1,13 +1,17 @@
 -- The image of a switch as the code makes it, and the three laws that callers need of it. A switch whose lists have their lengths has an image of 1,066 words; the switch of
 -- that image is the same switch, so nothing is lost; and where 1,066 words are lent, storing the image leaves the image and nothing else.
 -- Assumes nothing.
-use Prim.Native.Nat.{ℕ, ◌+◌}
+use Prim.Native.Nat.{ℕ, suc, ◌+◌, ◌-◌, min, ◌≤◌, ◌<◌}
 use native.Mathlib.Nat.{zero-add, add_assoc}
 use native.Mathlib.Omega.{arith}
 use mathlib.Core.Path.{◌≡◌, refl, sym, ap, ◌∙◌, fun_ext}
-use mathlib.Core.List.{List, ◌++◌, append_assoc, append-nil}
-use lib.ListN.{length, get_or, length-append, drop_of_length-le, get_or-append}
-use lib.Seq.{sets, get_or-append-add}
+use mathlib.Core.Logic.{⊎_elim}
+use mathlib.Core.List.{List, [], ◌∷◌, ◌++◌, append_assoc, append-nil}
+use lib.ListN.{length, get_or, take, drop, length-append, drop_of_length-le, get_or-append}
+use lib.Seq.{sets, sets-eq, length-sets, set_out, drop-drop, length-take-le, get_or-append-add}
+use borrow.Rule.Slice.PartMut.{put_mid}
+use Rattle.std.proofs.lemmas.List.{take-append-drop, drop_all}
+use Rattle.base.proofs.Order.{le_or_lt}
 use Rattle.base.specs.Below.{list_below}
 use Rattle.base.proofs.Listed.{listed_is}
 use Rattle.base.proofs.Sets.{sets_then, sets_start}
@@ -27,6 +31,33 @@ pub switch_read : (ws : List ℕ) (m o p v t a d x u n : ℕ) (q : Queues) → m
     → record { model = m; order = o; ports = p; speedup = v; slot = t; arrived = a; dropped = d; crossed = x; outmoved = u; sent = n; queues = q } ≡ switch_of ws
 unfolding switch_of
 switch_read ws m o p v t a d x u n q em eo ep ev et ea ed ex eu en eq = rw (em, eo, ep, ev, et, ea, ed, ex, eu, en, eq)
+
+-- past the end no words are stored
+pub sets_past : (l : List ℕ) (at : ℕ) (ws : List ℕ) → length l ≤ at → l ≡ sets l at ws
+sets_past l at [] h = refl
+sets_past l at (w ∷ ws) h = rw (set_out l at w h) (sets_past l (suc at) ws (omega arith))
+
+-- words of which as many are copied as there is room for
+pub copied : (l : List ℕ) (at : ℕ) (ws : List ℕ) (n k : ℕ) (part : List ℕ) → at < length l → n ≡ min (length ws) (length l - at) → k ≡ n → part ≡ take n ws
+    → put_mid at k l part ≡ sets l at ws
+copied l at ws n k part inside e same_number same_part =
+    let first = take n ws in
+    let long : length first ≡ n = length-take-le n ws (omega arith) in
+    let fits : at + length first ≤ length l = omega arith in
+    let stored : put_mid at n l first ≡ sets l at first =
+    ap (λ (m : List ℕ). take at l ++ (first ++ m)) (drop-drop n at l ∙ ap (λ (m : ℕ). drop (at + m) l) (sym long))
+    ∙ sym (sets-eq first l at fits ∙ append_assoc (take at l) first _)
+    in
+    let rest : sets l at first ≡ sets (sets l at first) (at + n) (drop n ws) =
+    ⊎_elim
+    (λ (h : length ws ≤ n). ap (sets (sets l at first) (at + n)) (sym (drop_all n ws h)))
+    (λ (h : n < length ws). sets_past (sets l at first) (at + n) (drop n ws) (omega (arith, length-sets l at first)))
+    (le_or_lt (length ws) n)
+    in
+    let all : sets (sets l at first) (at + n) (drop n ws) ≡ sets l at ws =
+    ap (λ (m : ℕ). sets (sets l at first) (at + m) (drop n ws)) (sym long) ∙ sym (sets_then l at first (drop n ws)) ∙ ap (sets l at) (take-append-drop n ws)
+    in
+    rw (same_number, same_part) (stored ∙ rest ∙ all)
 
 -- three lists that are stored one after the other
 pub three_stored : (l l₁ l₂ l₃ : List ℕ) (at : ℕ) (a b x : List ℕ) → l₁ ≡ sets l at a → l₂ ≡ sets l₁ (at + 256) b → l₃ ≡ sets l₂ (at + 272) x → length a ≡ 256 → length b ≡ 16

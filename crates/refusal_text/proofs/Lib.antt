@@ -1,3 +1,2 @@
 pub mod RoomLaws
 pub mod Unique
-pub mod WordsLaws

@@ -3,17 +3,12 @@
 use Prim.Native.Nat.{ℕ, ◌≤◌}
 use native.Mathlib.Omega.{arith}
 use mathlib.Core.Path.{◌≡◌, refl}
-use mathlib.Core.Bool.{Bool, true, false, cond}
 use mathlib.Core.List.{List}
 use lib.ListN.{length, take}
 use lib.Dec.{eqb}
 use Rattle.text.specs.Text.{Written, ascii}
-use Rattle.text.proofs.RoomLaws.{Room, room_more, room_then, room_written, room_decimal, stands}
+use Rattle.text.proofs.RoomLaws.{Room, room_more, room_then, either_room, room_written, room_decimal, stands}
 use Rattle.refusal_text.specs.Refusals.{words, refusal_line}
-
-either_room : (t : Bool) {a b : List ℕ} {n : ℕ} → Room a n → Room b n → Room (cond t a b) n
-either_room true x y = x
-either_room false x y = y
 
 words_room : (n : ℕ) → Room (words n) 110
 unfolding words ascii

@@ -8,84 +8,41 @@ ghost use Rattle.refusal_text.specs.Refusals.{words, refusal_line};
 
 use std::io;
 use std::io::Write;
+use text::Page;
 
-// Given exactly when. A few at a time: each text in a function makes all of its proof longer.
-fn first_words(page: &mut [u8], at: usize, n: u32) -> usize
-    requires { (1 ≤ n) × (n ≤ 4) }
-    ensures { Written page.old at (words n) page.new result }
+// Given exactly when. By number, as in the table: `refusal_line` and `told` promise an answer for every number.
+#[tactic(auto, unfolding(crate::specs::Refusals::words, text::specs::Text::ascii))]
+fn words(n: u32) -> &'static [u8]
+    ensures { result.now ≡ words n }
 {
-    if n == 1 {
-        return text::put(page, at, b"fewer than 40 bytes");
+    match n {
+        1 => b"fewer than 40 bytes",
+        2 => b"model not allowed",
+        3 => b"order not allowed",
+        4 => b"ports not allowed",
+        5 => b"speedup not allowed",
+        6 => b"slots above 4,096",
+        7 => b"arrivals above 4,096",
+        8 =>
+            b"an offset or the total differs from what the counts make it, or the slice's length is not the total",
+        9 => b"a capacity not allowed",
+        10 => b"slot counts do not add up to arrivals",
+        11 => b"an arrival's port is N or more",
+        _ => b"no refusal of a trace",
     }
-    if n == 2 {
-        return text::put(page, at, b"model not allowed");
-    }
-    if n == 3 {
-        return text::put(page, at, b"order not allowed");
-    }
-    text::put(page, at, b"ports not allowed")
 }
 
-fn middle_words(page: &mut [u8], at: usize, n: u32) -> usize
-    requires { (5 ≤ n) × (n ≤ 8) }
-    ensures { Written page.old at (words n) page.new result }
-{
-    if n == 5 {
-        return text::put(page, at, b"speedup not allowed");
-    }
-    if n == 6 {
-        return text::put(page, at, b"slots above 4,096");
-    }
-    if n == 7 {
-        return text::put(page, at, b"arrivals above 4,096");
-    }
-    text::put(
-        page,
-        at,
-        b"an offset or the total differs from what the counts make it, or the slice's length is not the total",
-    )
-}
-
-fn last_words(page: &mut [u8], at: usize, n: u32) -> usize
-    requires { (9 ≤ n) × (n ≤ 11) }
-    ensures { Written page.old at (words n) page.new result }
-{
-    if n == 9 {
-        return text::put(page, at, b"a capacity not allowed");
-    }
-    if n == 10 {
-        return text::put(page, at, b"slot counts do not add up to arrivals");
-    }
-    text::put(page, at, b"an arrival's port is N or more")
-}
-
-fn words(page: &mut [u8], at: usize, n: u32) -> usize
-    ensures { Written page.old at (words n) page.new result }
-{
-    if n == 0 {
-        return text::put(page, at, b"no refusal of a trace");
-    }
-    if n <= 4 {
-        return first_words(page, at, n);
-    }
-    if n <= 8 {
-        return middle_words(page, at, n);
-    }
-    if n <= 11 {
-        return last_words(page, at, n);
-    }
-    text::put(page, at, b"no refusal of a trace")
-}
-
-// The line of refusal n.
+// The line of refusal n. (A page and a place, not a `Page`: it is promised with its place, docs/PROMISES.md.)
 pub fn refusal_line(page: &mut [u8], at: usize, n: u32) -> usize
     ensures { Written page.old at (refusal_line n) page.new result }
 {
-    let behind_refused = text::put(page, at, b"refused ");
-    let behind_number = text::decimal(page, behind_refused, n);
-    let before_words = text::put(page, behind_number, b": ");
-    let behind_words = words(page, before_words, n);
-    text::put(page, behind_words, b"\n")
+    let mut page = Page { bytes: page, at };
+    page.put(b"refused ");
+    page.decimal(n);
+    page.put(b": ");
+    page.put(words(n));
+    page.put(b"\n");
+    page.at
 }
 
 // Writes the line of refusal n.

@@ -1,3 +1,5 @@
+pub mod OutLaws
+pub mod PageLaws
 pub mod PlacesLaws
 pub mod RoomLaws
 pub mod TextCases

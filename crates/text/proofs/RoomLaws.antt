@@ -32,6 +32,10 @@ pub room_then : {vs ws : List ℕ} {m n : ℕ} → Room vs m → Room ws n → R
 room_then {vs} {ws} a b =
     record { fit = fit_then a.fit b.fit; long = omega (arith, a.long, b.long, length-append vs ws) }
 
+pub either_room : (t : Bool) {vs ws : List ℕ} {n : ℕ} → Room vs n → Room ws n → Room (cond t vs ws) n
+either_room true a b = a
+either_room false a b = b
+
 -- a text whose bytes are written down is tested
 abbrev fits : List ℕ → Bool
 fits [] = true

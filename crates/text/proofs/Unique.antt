@@ -11,6 +11,14 @@ use Rattle.text.proofs.decimal.Kinds as decimal-kinds
 use Rattle.text.proofs.decimal.Reads as decimal
 use Rattle.text.proofs.hex.Kinds as hex-kinds
 use Rattle.text.proofs.hex.Reads as hex
+use Rattle.text.proofs.Page.put.Kinds as page-put-kinds
+use Rattle.text.proofs.Page.put.Reads as page-put
+use Rattle.text.proofs.Page.decimal.Kinds as page-decimal-kinds
+use Rattle.text.proofs.Page.decimal.Reads as page-decimal
+use Rattle.text.proofs.Page.hex.Kinds as page-hex-kinds
+use Rattle.text.proofs.Page.hex.Reads as page-hex
+use Rattle.text.proofs.Page.line.Kinds as page-line-kinds
+use Rattle.text.proofs.Page.line.Reads as page-line
 use Rattle.text.proofs.line.Kinds as line-kinds
 use Rattle.text.proofs.line.Reads as line
 
@@ -29,3 +37,15 @@ hex_one κs a x y d e = written_one
 
 pub line_one : OneShown 2 line-kinds.ps line-kinds.r {A = λ κs. ℕ × List ℕ} (λ κs x d. (x, d.0.now)) line.Post
 line_one κs a x y d e = written_one
+
+pub page_put_one : OneShown 3 page-put-kinds.ps page-put-kinds.r {A = λ κs. ℕ × List ℕ} (λ κs x d. (d.0.now.at, d.0.now.bytes.now)) page-put.Post
+page_put_one κs a x y d e p q = written_one p.written q.written
+
+pub page_decimal_one : OneShown 2 page-decimal-kinds.ps page-decimal-kinds.r {A = λ κs. ℕ × List ℕ} (λ κs x d. (d.0.now.at, d.0.now.bytes.now)) page-decimal.Post
+page_decimal_one κs a x y d e p q = written_one p.written q.written
+
+pub page_hex_one : OneShown 2 page-hex-kinds.ps page-hex-kinds.r {A = λ κs. ℕ × List ℕ} (λ κs x d. (d.0.now.at, d.0.now.bytes.now)) page-hex.Post
+page_hex_one κs a x y d e p q = written_one p.written q.written
+
+pub page_line_one : OneShown 3 page-line-kinds.ps page-line-kinds.r {A = λ κs. ℕ × List ℕ} (λ κs x d. (d.0.now.at, d.0.now.bytes.now)) page-line.Post
+page_line_one κs a x y d e p q = written_one p.written q.written

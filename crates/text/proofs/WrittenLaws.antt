@@ -1,34 +1,30 @@
--- Texts on a page: one byte, no text, and one text behind another; the next place stays within the page.
+-- Texts on a page: no text, one that is copied, and one text behind another; the next place stays within the page.
 -- Assumes nothing.
-use Prim.Native.Nat.{ℕ, zero, suc, ◌+◌, ◌≤◌, ◌<◌}
-use native.Mathlib.Numerals.{add-one}
+use Prim.Native.Nat.{ℕ, zero, suc, ◌+◌, ◌-◌, min, ◌≤◌, ◌<◌}
 use native.Mathlib.Omega.{arith}
 use mathlib.Core.Path.{◌≡◌, refl, sym, ap, ◌∙◌}
 use mathlib.Core.Logic.{⊎_elim}
-use mathlib.Core.List.{List, [], ◌∷◌, ◌++◌}
-use lib.ListN.{length, get_or, set, take, length-append}
-use lib.Seq.{take-suc, take_all, length-take-le}
+use mathlib.Core.List.{List, [], ◌∷◌, ◌++◌, append_assoc}
+use lib.ListN.{length, get_or, set, take, drop, length-append}
+use lib.Seq.{sets, sets-eq, drop-drop, length-take-le}
+use borrow.Rule.Slice.PartMut.{put_mid}
+use Rattle.std.proofs.Common.{Fits, w8}
+use Rattle.std.proofs.lemmas.List.{take-append-drop, drop_all}
 use borrow.Author.Tests.{lt-ltb, le-ltb}
 use Rattle.base.proofs.Order.{le_or_lt}
 use Rattle.io.specs.Counts.{IsPrefixLen}
 use Rattle.queues.specs.Log.{entered, logged, onward}
-use Rattle.queues.proofs.LogLaws.{length_logged, logged_past, logged_then, onward_past, onward_then}
+use Rattle.queues.proofs.LogLaws.{Fit, none, more, length_logged, logged_past, logged_then, onward_past, onward_within, onward_then}
 use Rattle.text.specs.Text.{Written}
 
 -- the page keeps its length
 pub page_length : {page after : List ℕ} {at next : ℕ} {text : List ℕ} → Written page at text after next → length after ≡ length page
 page_length {page} {at = at} {text = text} a = ap length a.of_page ∙ length_logged page at text
 
--- a byte past the page's end
-pub byte_past : (page : List ℕ) (at b : ℕ) → length page ≤ at → Written page at (b ∷ []) page at
-byte_past page at b h =
-    record { of_page = sym (logged_past page at (b ∷ []) h); of_next = sym (onward_past (length page) at 1 h) }
-
--- a byte within it
-pub byte_within : (page : List ℕ) (at b : ℕ) → at < length page → b < 256 → Written page at (b ∷ []) (set page at b) (at + 1)
-unfolding logged entered onward
-byte_within page at b h small =
-    record { of_page = rw (lt-ltb b 4294967296 (omega arith)); of_next = rw (lt-ltb at (length page) h) (add-one at) }
+-- past the page's end nothing stands
+pub past : (page : List ℕ) (at : ℕ) (text : List ℕ) → length page ≤ at → Written page at text page at
+past page at text h =
+    record { of_page = sym (logged_past page at text h); of_next = sym (onward_past (length page) at (length text) h) }
 
 -- nothing
 pub nothing : (page : List ℕ) (at : ℕ) → Written page at [] page at
@@ -60,13 +56,45 @@ same {page} {after} {at} {next} e a =
       of_next = a.of_next ∙ ap (λ (t : List ℕ). onward (length page) at (length t)) e;
     }
 
--- a text's first bytes, one more
-pub one_more : {page mid after : List ℕ} {at place next : ℕ} (text : List ℕ) (k : ℕ) → k < length text → Written page at (take k text) mid place → Written mid place (get_or text k 0 ∷ []) after next → Written page at (take (k + 1) text) after next
-one_more text k h a b = same (sym (ap (λ (n : ℕ). take n text) (add-one k) ∙ take-suc text k 0 h)) (then a b)
+-- bytes are words that `logged` takes
+pub fit_each : (text : List ℕ) → ((i : ℕ) → Fits w8 (get_or text i 0)) → Fit text
+fit_each [] each = none
+fit_each (b ∷ text) each = more (omega (arith, each 0)) (fit_each text (λ i. each (suc i)))
 
--- and all of them
-pub all_of : {page after : List ℕ} {at next : ℕ} (text : List ℕ) (k : ℕ) → length text ≤ k → Written page at (take k text) after next → Written page at text after next
-all_of text k h a = same (take_all k text h) a
+fit_first : {text : List ℕ} (k : ℕ) → Fit text → Fit (take k text)
+fit_first zero f = none
+fit_first (suc k) none = none
+fit_first (suc k) (more h f) = more h (fit_first k f)
+
+logged_sets : (page : List ℕ) (at : ℕ) (text : List ℕ) → Fit text → logged page at text ≡ sets page at text
+unfolding logged entered
+logged_sets page at [] none = refl
+logged_sets page at (w ∷ text) (more h fit) = rw (lt-ltb w 4294967296 h) (logged_sets (set page at w) (suc at) text fit)
+
+-- a text that the page has room for, copied to its place
+within : (page : List ℕ) (at : ℕ) (text : List ℕ) (n : ℕ) → Fit text → length text ≡ n → at + n ≤ length page → Written page at text (put_mid at n page text) (at + n)
+within page at text n fit long room =
+    record {
+      of_page =
+          ap (λ (l : List ℕ). take at page ++ (text ++ l)) (drop-drop n at page ∙ ap (λ (k : ℕ). drop (at + k) page) (sym long))
+          ∙ sym (logged_sets page at text fit ∙ sets-eq text page at (omega (arith, long)) ∙ append_assoc (take at page) text _);
+      of_next = ap (λ (k : ℕ). at + k) (sym long) ∙ sym (onward_within (length page) at (length text) (omega (arith, long)));
+    }
+
+-- a text of which as much is copied as the page has room for
+pub copied : (page : List ℕ) (at : ℕ) (text : List ℕ) (n k : ℕ) (part : List ℕ) → Fit text → at < length page → n ≡ min (length text) (length page - at) → k ≡ n → part ≡ take n text
+    → Written page at text (put_mid at k page part) (at + n)
+copied page at text n k part fit inside e same_number same_part =
+    let all : take n text ++ drop n text ≡ text = take-append-drop n text in
+    let first = within page at (take n text) n (fit_first n fit) (length-take-le n text (omega arith)) (omega arith) in
+    let long = page_length first in
+    rw (same_number, same_part)
+    (same all
+    (then first
+    (⊎_elim
+    (λ (h : length text ≤ n). same (sym (drop_all n text h)) (nothing _ (at + n)))
+    (λ (h : n < length text). past _ (at + n) (drop n text) (omega arith))
+    (le_or_lt (length text) n))))
 
 -- the next place is no further than the page's end
 onward_bound : (n at k : ℕ) → at ≤ n → onward n at k ≤ n

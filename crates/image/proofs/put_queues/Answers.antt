@@ -1,10 +1,13 @@
 -- `image::put_queues` meets its contract: the capacities and then the lengths.
 -- Assumes nothing.
-use borrow.Author.Rules.{rules}
-use Rattle.image.proofs.ImageLaws.{queues_stored}
+use Rattle.std.proofs.Common.{rules}
+use Rattle.image.proofs.ImageLaws.{three_stored, queues_stored}
 use Rattle.image.proofs.put_queues.Goals as goal
 
 pub returns : goal.returns
 returns c =
-    let a = c.args in
-    queues_stored a.state.now _ _ a.q c.put_three.ensures c.put_three-2.ensures (search rules) (search rules) (search rules)
+    let l = c.args.state.now in
+    let q = c.args.q.now in
+    let capacities = three_stored l _ _ _ 10 q.incap q.outcap q.crosscap c.put.ensures c.put-2.ensures c.put-3.ensures (search rules) (search rules) in
+    let lengths = three_stored c.put-3.new.state _ _ _ 538 q.inlen q.outlen q.crosslen c.put-4.ensures c.put-5.ensures c.put-6.ensures (search rules) (search rules) in
+    queues_stored l _ _ q capacities lengths (search rules) (search rules) (search rules)

@@ -1,13 +1,14 @@
 -- `refusal_text::refusal_line` meets its contract.
 -- Assumes nothing.
+use Rattle.std.proofs.Common.{rules}
 use Rattle.text.specs.Text.{ascii}
-use Rattle.text.proofs.WrittenLaws.{then}
+use Rattle.text.proofs.WrittenLaws.{then, same}
 use Rattle.refusal_text.specs.Refusals.{refusal_line}
 use Rattle.refusal_text.proofs.refusal_line.Goals as goal
 
 pub returns : goal.returns
 unfolding refusal_line ascii
 returns c =
-    then
-    (then (then (then c.put-behind_refused.ensures c.decimal-behind_number.ensures) c.put-before_words.ensures) c.words-behind_words.ensures)
-    c.put.ensures
+    let words = same c.words.ensures c.put-3.ensures.written in
+    let w = then (then (then (then c.put.ensures.written c.decimal.ensures.written) c.put-2.ensures.written) words) c.put-4.ensures.written in
+    search (rules, w)

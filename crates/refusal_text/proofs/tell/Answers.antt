@@ -1,9 +1,9 @@
 -- `refusal_text::tell` meets its contract.
 -- Assumes nothing.
-use Rattle.std.proofs.Common.{ℕ, List, OnOk, subst, arith}
+use Rattle.std.proofs.Common.{ℕ, arith}
 use lib.ListN.{length-replicate}
-use Rattle.std.specs.Io.KnownBytes.{Appends}
 use Rattle.text.proofs.WrittenLaws.{counted}
+use Rattle.text.proofs.OutLaws.{appends_same}
 use Rattle.refusal_text.proofs.RoomLaws.{whole_line}
 use Rattle.refusal_text.proofs.tell.Goals as goal
 
@@ -15,6 +15,6 @@ slice_bounds-write_all-end g c = (counted c.refusal_line-k.ensures).1
 
 pub returns : goal.returns
 returns g c =
-    subst (λ (t : List ℕ). OnOk c.write_all.result (Appends (g.W.Write.contents c.args.error.now) (g.W.Write.contents c.write_all.new.self) t))
+    appends_same _ _ _
     (whole_line c.args.n (omega (arith, length-replicate {A = ℕ} 256 0)) c.refusal_line-k.ensures)
     c.write_all.ensures.bytes
