@@ -8,10 +8,10 @@ use lib.ListN.{length, take}
 use Rattle.text.specs.Text.{Written, ascii}
 use Rattle.text.proofs.RoomLaws.{Room, room_more, room_then, room_written, room_line, stands}
 use Rattle.trace.specs.Reading.{reading}
-use Rattle.switch.specs.declared.Switch.{Switch}
+use Rattle.run.specs.declared.Counts.{Counts}
 use Rattle.report.specs.Report.{count_lines, totals, report_as, report_of}
 
-count_room : (w : Switch) → Room (count_lines w) 175
+count_room : (w : Counts) → Room (count_lines w) 175
 unfolding count_lines ascii
 count_room w =
     let arrived = room_line w.arrived (room_written (ascii "arrived") 7 refl) in
@@ -19,10 +19,10 @@ count_room w =
     let crossed = room_line w.crossed (room_written (ascii "crossed") 7 refl) in
     let outmoved = room_line w.outmoved (room_written (ascii "outmoved") 8 refl) in
     let sent = room_line w.sent (room_written (ascii "sent") 4 refl) in
-    let held = room_line _ (room_written (ascii "held") 4 refl) in
+    let held = room_line w.held (room_written (ascii "held") 4 refl) in
     room_more (room_then (room_then (room_then (room_then (room_then arrived dropped) crossed) outmoved) sent) held) (omega arith)
 
-totals_room : (w : Switch) (quiet : ℕ) → Room (totals w quiet) 238
+totals_room : (w : Counts) (quiet : ℕ) → Room (totals w quiet) 238
 unfolding totals ascii
 totals_room w quiet =
     let loss = room_line _ (room_written (ascii "per-thousand") 12 refl) in

@@ -10,9 +10,8 @@ ghost use Rattle.report.specs.Report.{report_of};
 
 use std::io;
 use std::io::{Read, Write};
-use trace::Verdict;
 
-// The report on a trace, in one write.
+// The report on a trace, in one write. (No heap: the page here, the log and the buffer are of a fixed size.)
 fn print_report<W: Write>(out: &mut W, trace: &[u8]) -> io::Result<()>
     ensures { OnOk result (Appends (W.contents out.old) (W.contents out.new) (report_of trace.now)) }
 {
@@ -23,11 +22,8 @@ fn print_report<W: Write>(out: &mut W, trace: &[u8]) -> io::Result<()>
 
 // The words of a refused trace's refusal.
 fn tell<E: Write>(error: &mut E, trace: &[u8]) {
-    match trace::examine(trace) {
-        Verdict::Accepted(_) => {}
-        Verdict::Refused(n) => {
-            refusal_text::told(error, n);
-        }
+    if let Err(refusal) = trace::examine(trace) {
+        refusal_text::told(error, refusal.number());
     }
 }
 

@@ -2,99 +2,77 @@
 // the quiet slots of a drain, and the whole lent log. Prints how many traces there were and how many differ.
 #![tactic(auto)]
 
-ghost use Rattle.std.specs.Prelude.{◌≤◌, ◌<◌, length};
+ghost use Rattle.std.specs.Prelude.{◌≡◌, ◌-◌, ◌≤◌, length};
 
 use run::Counts;
-use switch::Drain;
+use switch::{Drain, Drained};
 
-// What the log holds before a run.
+// What the log holds before a run. (No heap: the logs and the buffer are of a fixed size.)
 const BLANK: u32 = 2863311530;
 
-fn byte(s: &[u8], at: usize) -> u32
-    ensures { result < 256 }
-{
-    if at < s.len() {
-        return s[at] as u32;
-    }
-    0
+// Byte k, and 0 past the end.
+fn byte(s: &[u8], k: usize) -> u8 {
+    s.get(k).copied().unwrap_or(0)
 }
 
 // Number k of a run of 32-bit numbers, low byte first.
 fn number(s: &[u8], k: u32) -> u32 {
-    let p = 4 * (k as usize);
-    byte(s, p) + 256 * byte(s, p + 1) + 65536 * byte(s, p + 2) + 16777216 * byte(s, p + 3)
+    u32::from_le_bytes(std::array::from_fn(|b| byte(s, 4 * (k as usize) + b)))
 }
 
-// The n bytes from a place on, as far as there are any.
-fn part(s: &[u8], at: usize, n: usize) -> &[u8] {
-    let len = s.len();
-    if len <= at {
-        return &s[len..len];
-    }
-    if len - at <= n {
-        return &s[at..len];
-    }
-    &s[at..at + n]
+// The first n bytes and those behind them, as far as there are any.
+fn cut(s: &[u8], n: usize) -> (&[u8], &[u8])
+    ensures { length result.1.now ≡ length s.now - n }
+{
+    s.split_at(n.min(s.len()))
 }
 
 // The log: the stored words, and behind them what it held.
-fn same_log(stored: &[u8], words: u32, log: &[u32]) -> bool {
-    for k in 0..16384u32 {
-        let w = queues::number_at(log, k as usize);
-        if k < words {
-            if w != number(stored, k) {
-                return false;
-            }
-        } else if w != BLANK {
-            return false;
-        }
-    }
-    true
+fn same_log(stored: &[u8], words: u32, log: &[u32; 16384]) -> bool {
+    (0..16384u32).zip(log).all(|(k, word)| *word
+        == if k < words { number(stored, k) } else { BLANK })
 }
 
-// The answer's numbers: refusal, six counts, quiet slots.
-fn same_counts(answer: &[u8], refusal: u32, counts: Counts, quiet: u32) -> bool {
-    number(answer, 0) == refusal
-        && number(answer, 1) == counts.arrived
-        && number(answer, 2) == counts.dropped
-        && number(answer, 3) == counts.crossed
-        && number(answer, 4) == counts.outmoved
-        && number(answer, 5) == counts.sent
-        && number(answer, 6) == counts.held
-        && number(answer, 7) == quiet
+// The six counts behind an answer's refusal.
+fn counts_in(answer: &[u8]) -> Counts {
+    Counts {
+        arrived: number(answer, 1),
+        dropped: number(answer, 2),
+        crossed: number(answer, 3),
+        outmoved: number(answer, 4),
+        sent: number(answer, 5),
+        held: number(answer, 6),
+    }
 }
 
 // The quiet slots after a run, 0 for a refused trace. A drain that is refused or does not end empty has no such number: 4,097 is none.
 fn quiet_after(trace: &[u8]) -> u32 {
     let mut log = [0u32; 16384];
-    let end = run::finish(trace, &mut log);
-    if end.refusal != 0 {
+    let Ok(end) = run::finish(trace, &mut log) else {
         return 0;
-    }
-    let drained = end.switch.drain(4096);
-    let answer = drained.answer;
-    match answer {
-        Drain::Empty(n) => n,
-        Drain::NotEmpty(_) => 4097,
-        Drain::Refused(_) => 4097,
+    };
+    match end.switch.drain(4096) {
+        Ok(
+            Drained {
+                drain: Drain::Empty(n),
+                ..
+            },
+        ) => n,
+        _ => 4097,
     }
 }
 
 // A stored trace's answer: refusal, six counts, quiet slots, the number of words, and the words.
 fn same(trace: &[u8], answer: &[u8], stored: &[u8]) -> bool {
     let mut log = [BLANK; 16384];
-    let ran = run::run(trace, &mut log);
-    let counts = ran.counts;
-    same_counts(answer, ran.refusal, counts, quiet_after(trace))
+    let (refusal, counts) = match run::run(trace, &mut log) {
+        Ok(counts) => (0, counts),
+        Err(refused) => (refused.refusal.number(), refused.answer),
+    };
+    number(answer, 0) == refusal
+        && counts_in(answer) == counts
+        && number(answer, 7) == quiet_after(trace)
         && same_log(stored, number(answer, 8), &log)
-}
-
-// One more, of counts that stay far below 2^32.
-fn more(n: u32) -> u32 {
-    if n < 1000000 {
-        return n + 1;
-    }
-    n
 }
 
 // What cannot be written is left out.
@@ -102,7 +80,7 @@ fn line(rt: &impl Print, name: &str, n: u32) {
     let _ = println!(rt; "{name} {n}");
 }
 
-#[derive(Clone, Copy)]
+#[derive(Clone, Copy, Debug, Default, PartialEq, Eq)]
 struct Tally {
     traces: u32,
     differ: u32,
@@ -112,22 +90,19 @@ struct Tally {
 fn compare_all(all: &[u8]) -> Tally
     requires { length all.now ≤ 262144 }
 {
-    let mut tally = Tally {
-        traces: 0,
-        differ: 0,
-    };
-    let mut at: usize = 0;
-    while at < all.len() {
-        let n = number(part(all, at, 4), 0) as usize;
-        let trace = part(all, at + 4, n);
-        let answer = part(all, at + 4 + n, 36);
-        let words = number(answer, 8) as usize;
-        let stored = part(all, at + 40 + n, 4 * words);
+    let mut tally = Tally::default();
+    let mut rest = all;
+    // each part says how long it is: there is nothing to count
+    while !rest.is_empty() {
+        let (n, behind) = cut(rest, 4);
+        let (trace, behind) = cut(behind, number(n, 0) as usize);
+        let (answer, behind) = cut(behind, 36);
+        let (stored, behind) = cut(behind, 4 * (number(answer, 8) as usize));
         if !same(trace, answer, stored) {
-            tally.differ = more(tally.differ);
+            tally.differ += 1;
         }
-        tally.traces = more(tally.traces);
-        at += 40 + n + 4 * words;
+        tally.traces += 1;
+        rest = behind;
     }
     tally
 }

@@ -1,11 +1,14 @@
--- `stored::compare_all` meets its contract. Each stored trace takes 40 bytes or more, so the loop ends.
+-- `stored::compare_all` meets its contract. Each stored trace takes a byte or more, so the loop ends, and there are no more traces than bytes.
 -- Assumes nothing.
-use Prim.Native.Nat.{◌-◌, ◌≤◌}
+use Prim.Native.Nat.{◌+◌, ◌≤◌}
 use lib.ListN.{length}
 use Rattle.stored.proofs.compare_all.Given as goal
 
-abbrev pub invariant-loop-at : goal.invariant-loop-at
-invariant-loop-at l = length l.all ≤ 262144
+abbrev pub invariant-loop-rest : goal.invariant-loop-rest
+invariant-loop-rest l = record {
+  few : l.tally.traces + length l.rest ≤ 262144;
+  differ : l.tally.differ ≤ l.tally.traces;
+}
 
-abbrev pub decreases-loop-at : goal.decreases-loop-at
-decreases-loop-at l = length l.all - l.at
+abbrev pub decreases-loop-rest : goal.decreases-loop-rest
+decreases-loop-rest l = length l.rest

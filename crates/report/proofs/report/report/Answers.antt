@@ -1,26 +1,27 @@
 -- `report::report::report` meets its contract.
 -- Assumes nothing.
-use Prim.Native.Nat.{ℕ}
-use mathlib.Core.Path.{◌≡◌}
-use lib.ListN.{length, replicate, length-replicate}
+use Rattle.std.proofs.Common.{rules}
 use Rattle.text.specs.Text.{ascii}
-use Rattle.text.proofs.WrittenLaws.{then, same}
-use Rattle.run.proofs.EndingLaws.{finish_agrees}
-use Rattle.report.proofs.ReportLaws.{refused_report, accepted_report}
+use Rattle.text.proofs.WrittenLaws.{same}
+use Rattle.text.proofs.PageLaws.{puts_then}
+use Rattle.run.proofs.EnoughLaws.{log_length}
+use Rattle.report.proofs.ReportLaws.{refused_report, accepted_report, accepted_dropped}
 use Rattle.report.proofs.report.report.Goals as goal
-
-log_length : length (replicate {A = ℕ} 16384 0) ≡ 16384
-log_length = length-replicate {A = ℕ} 16384 0
-
-pub returns-then-n-ne0 : goal.returns-then-n-ne0
-unfolding ascii
-returns-then-n-ne0 c =
-    same (refused_report _ _ c.finish-end.result c.finish-end.ensures.value log_length c.if-n-ne0.true) (then c.put-head.ensures c.line.ensures)
+use Rattle.report.proofs.report.report.Goals.{in-Ok, in-Err}
 
 pub totals-requires : goal.totals-requires
-totals-requires c = finish_agrees _ _ _ c.finish-end.ensures.value
+totals-requires c = accepted_dropped _ _ log_length c.in-Ok.end c.in-Ok.ensures.value _ c.counts.ensures
 
 pub returns : goal.returns
 unfolding ascii
 returns c =
-    same (accepted_report _ _ c.finish-end.result c.finish-end.ensures.value log_length c.if-n-ne0.false _ c.quiet_slots.ensures) (then c.put-head.ensures c.totals.ensures)
+    elim c.match-finish.branch [
+      | in-Ok w ↦
+          let all = same (accepted_report _ _ log_length w.in-Ok.end w.in-Ok.ensures.value _ w.counts.ensures _ w.quiet_slots.ensures) (puts_then c.put.ensures w.totals.ensures).written in
+          let is = w.page-is in
+          search (rules, all, is)
+      | in-Err w ↦
+          let all = same (refused_report _ _ log_length w.in-Err.refused w.in-Err.ensures.value _ w.number.ensures) (puts_then c.put.ensures w.line.ensures).written in
+          let is = w.page-is in
+          search (rules, all, is)
+    ]
