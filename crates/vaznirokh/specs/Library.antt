@@ -1,16 +1,18 @@
 -- The static library's functions, as numbers and lent runs of them (document 01, for callers in other languages). Each answers 0 or a refusal's number. A lent run of the
 -- wrong length gets 30, before anything else. After a refusal every lent run holds what it held.
-use Rattle.std.specs.Prelude.{ℕ, zero, suc, List, [], ◌∷◌, length, get_or, eqb}
-use Rattle.base.specs.Refusal.{unless, ◌⨟◌}
+use Rattle.std.specs.Prelude.{ℕ, zero, suc, List, [], ◌∷◌, Result, Ok, Err, length, get_or, eqb}
+use Rattle.base.specs.declared.Refused.{Refused}
+use Rattle.base.specs.Refusal.{unless, ◌⨟◌, refusal_of, refusal_with}
 use Rattle.layout.specs.declared.Header.{Header}
-use Rattle.trace.specs.Reading.{verdict, refusal_of}
-use Rattle.trace_write.specs.declared.Written.{Written}
-use Rattle.trace_write.specs.declared.Written.TheVariants.{Filled, Refused as WritingRefused}
+use Rattle.trace.specs.Reading.{verdict}
 use Rattle.trace_write.specs.Writing.{written, written_out}
+use Rattle.switch.specs.declared.Switch.{Switch}
 use Rattle.switch.specs.declared.Taken.{Taken}
-use Rattle.switch.specs.declared.Taken.TheVariants.{Accepted, Dropped, Refused as TakingRefused}
+use Rattle.switch.specs.declared.Taken.TheVariants.{Accepted, Dropped}
+use Rattle.switch.specs.declared.Arrived.{Arrived}
 use Rattle.switch.specs.declared.Drain.{Drain}
-use Rattle.switch.specs.declared.Drain.TheVariants.{Empty, NotEmpty, Refused as DrainRefused}
+use Rattle.switch.specs.declared.Drain.TheVariants.{Empty, NotEmpty}
+use Rattle.switch.specs.declared.Drained.{Drained}
 use Rattle.switch.specs.Making.{made}
 use Rattle.switch.specs.Steps.{arrive, close}
 use Rattle.switch.specs.Draining.{drain}
@@ -27,6 +29,11 @@ unfoldable pub settled : ℕ → List ℕ → List ℕ → List ℕ
 settled zero new held = new
 settled (suc n) new held = held
 
+-- what an answer hands back, of the same kind where it is a refusal
+unfoldable pub handed : {A : Type 0} → Result A (Refused A) → A
+handed (Ok a) = a
+handed (Err e) = e.answer
+
 -- vaz_examine: the verdict's number, 0 or 1 to 11
 unfoldable pub vaz_examine : List ℕ → ℕ
 vaz_examine trace = refusal_of (verdict trace)
@@ -36,13 +43,13 @@ unfoldable pub count_words : Counts → List ℕ
 count_words c = c.arrived ∷ (c.dropped ∷ (c.crossed ∷ (c.outmoved ∷ (c.sent ∷ (c.held ∷ [])))))
 
 unfoldable pub vaz_run : List ℕ → List ℕ → List ℕ → ℕ
-vaz_run trace log counts = length_number 6 counts ⨟ (ran trace log).refusal
+vaz_run trace log counts = length_number 6 counts ⨟ refusal_with (ran trace log)
 
 unfoldable pub vaz_run_log : List ℕ → List ℕ → List ℕ → List ℕ
 vaz_run_log trace log counts = settled (vaz_run trace log counts) (ran_log trace log) log
 
 unfoldable pub vaz_run_counts : List ℕ → List ℕ → List ℕ → List ℕ
-vaz_run_counts trace log counts = settled (vaz_run trace log counts) (count_words (ran trace log).counts) counts
+vaz_run_counts trace log counts = settled (vaz_run trace log counts) (count_words (handed (ran trace log))) counts
 
 -- vaz_write: six words as a header, and the writer's answer as a number
 unfoldable pub header_of_words : List ℕ → Header
@@ -56,13 +63,9 @@ header_of_words ws =
       arrivals = get_or ws 5 0;
     }
 
-unfoldable pub written_number : Written → ℕ
-written_number (Filled total) = 0
-written_number (WritingRefused n) = n
-
 unfoldable pub vaz_write : List ℕ → List ℕ → List ℕ → List ℕ → List ℕ → ℕ
 vaz_write header capacities counts arrivals out =
-    length_number 6 header ⨟ written_number (written (header_of_words header) capacities counts arrivals out)
+    length_number 6 header ⨟ refusal_of (written (header_of_words header) capacities counts arrivals out)
 
 unfoldable pub vaz_write_out : List ℕ → List ℕ → List ℕ → List ℕ → List ℕ → List ℕ
 vaz_write_out header capacities counts arrivals out =
@@ -70,65 +73,66 @@ vaz_write_out header capacities counts arrivals out =
 
 -- vaz_new: a new switch's image, where 1,066 words are lent for it
 unfoldable pub vaz_new : List ℕ → List ℕ → ℕ
-vaz_new trace state = length_number 1066 state ⨟ (made trace).refusal
+vaz_new trace state = length_number 1066 state ⨟ refusal_with (made trace)
 
 unfoldable pub vaz_new_state : List ℕ → List ℕ → List ℕ
-vaz_new_state trace state = settled (vaz_new trace state) (image_of (made trace).switch) state
+vaz_new_state trace state = settled (vaz_new trace state) (image_of (handed (made trace))) state
 
--- vaz_arrive: an arrival's refusal as a number, and 1 for accepted, 2 for dropped
-unfoldable pub taken_number : Taken → ℕ
-taken_number Accepted = 0
-taken_number Dropped = 0
-taken_number (TakingRefused n) = n
-
+-- vaz_arrive: an arrival's refusal as a number, the switch that it hands back, and 1 for accepted, 2 for dropped
 unfoldable pub taken_word : Taken → ℕ
 taken_word Accepted = 1
 taken_word Dropped = 2
-taken_word (TakingRefused n) = 0
+
+unfoldable pub arrived_switch : Result Arrived (Refused Switch) → Switch
+arrived_switch (Ok a) = a.switch
+arrived_switch (Err e) = e.answer
+
+unfoldable pub arrived_word : Result Arrived (Refused Switch) → ℕ
+arrived_word (Ok a) = taken_word a.taken
+arrived_word (Err e) = 0
 
 unfoldable pub vaz_arrive : List ℕ → ℕ → ℕ → List ℕ → ℕ
 vaz_arrive state input output answer =
-    (length_number 1066 state ⨟ length_number 1 answer) ⨟ taken_number (arrive (switch_of state) input output).answer
+    (length_number 1066 state ⨟ length_number 1 answer) ⨟ refusal_with (arrive (switch_of state) input output)
 
 unfoldable pub vaz_arrive_state : List ℕ → ℕ → ℕ → List ℕ → List ℕ
 vaz_arrive_state state input output answer =
-    settled (vaz_arrive state input output answer) (image_of (arrive (switch_of state) input output).switch) state
+    settled (vaz_arrive state input output answer) (image_of (arrived_switch (arrive (switch_of state) input output))) state
 
 unfoldable pub vaz_arrive_answer : List ℕ → ℕ → ℕ → List ℕ → List ℕ
 vaz_arrive_answer state input output answer =
-    settled (vaz_arrive state input output answer) (taken_word (arrive (switch_of state) input output).answer ∷ []) answer
+    settled (vaz_arrive state input output answer) (arrived_word (arrive (switch_of state) input output) ∷ []) answer
 
 -- vaz_close: the switch after all cycles and the sending
 unfoldable pub vaz_close : List ℕ → ℕ
-vaz_close state = length_number 1066 state ⨟ (close (switch_of state)).refusal
+vaz_close state = length_number 1066 state ⨟ refusal_with (close (switch_of state))
 
 unfoldable pub vaz_close_state : List ℕ → List ℕ
-vaz_close_state state = settled (vaz_close state) (image_of (close (switch_of state)).switch) state
+vaz_close_state state = settled (vaz_close state) (image_of (handed (close (switch_of state)))) state
 
--- vaz_drain: a drain's refusal as a number; 1 for empty and 0 for not; the count of quiet slots
-unfoldable pub drain_number : Drain → ℕ
-drain_number (Empty n) = 0
-drain_number (NotEmpty n) = 0
-drain_number (DrainRefused n) = n
-
+-- vaz_drain: a drain's refusal as a number, the switch that it hands back; 1 for empty and 0 for not; the count of quiet slots
 unfoldable pub drain_word : Drain → ℕ
 drain_word (Empty n) = 1
 drain_word (NotEmpty n) = 0
-drain_word (DrainRefused n) = 0
 
 unfoldable pub drain_quiet : Drain → ℕ
 drain_quiet (Empty n) = n
 drain_quiet (NotEmpty n) = n
-drain_quiet (DrainRefused n) = 0
+
+unfoldable pub drained_switch : Result Drained (Refused Switch) → Switch
+drained_switch (Ok d) = d.switch
+drained_switch (Err e) = e.answer
+
+unfoldable pub drained_words : Result Drained (Refused Switch) → List ℕ
+drained_words (Ok d) = drain_word d.drain ∷ (drain_quiet d.drain ∷ [])
+drained_words (Err e) = 0 ∷ (0 ∷ [])
 
 unfoldable pub vaz_drain : List ℕ → ℕ → List ℕ → ℕ
 vaz_drain state limit answer =
-    (length_number 1066 state ⨟ length_number 2 answer) ⨟ drain_number (drain (switch_of state) limit).answer
+    (length_number 1066 state ⨟ length_number 2 answer) ⨟ refusal_with (drain (switch_of state) limit)
 
 unfoldable pub vaz_drain_state : List ℕ → ℕ → List ℕ → List ℕ
-vaz_drain_state state limit answer = settled (vaz_drain state limit answer) (image_of (drain (switch_of state) limit).switch) state
+vaz_drain_state state limit answer = settled (vaz_drain state limit answer) (image_of (drained_switch (drain (switch_of state) limit))) state
 
 unfoldable pub vaz_drain_answer : List ℕ → ℕ → List ℕ → List ℕ
-vaz_drain_answer state limit answer =
-    let end = (drain (switch_of state) limit).answer in
-    settled (vaz_drain state limit answer) (drain_word end ∷ (drain_quiet end ∷ [])) answer
+vaz_drain_answer state limit answer = settled (vaz_drain state limit answer) (drained_words (drain (switch_of state) limit)) answer

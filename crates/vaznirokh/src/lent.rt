@@ -1,64 +1,38 @@
-// The work on lent runs: their lengths, and the steps on runs that have them.
-ghost use Rattle.std.specs.Prelude.{◌≡◌, [], ◌∷◌, length};
-ghost use Rattle.base.specs.Refusal.{◌⨟◌};
-ghost use Rattle.switch.specs.Making.{made};
-ghost use Rattle.switch.specs.Steps.{arrive, close};
-ghost use Rattle.switch.specs.Draining.{drain};
-ghost use Rattle.run.specs.Run.{ran, ran_log};
-ghost use Rattle.image.specs.Image.{switch_of, image_of};
-ghost use Rattle.vaznirokh.specs.Library.{length_number, settled, count_words, header_of_words, taken_number, taken_word, drain_number, drain_word, drain_quiet};
+// The work on lent runs. A run of the wrong length is refused before anything else, and after a refusal nothing that was lent is changed.
+ghost use Rattle.std.specs.Prelude.{◌≡◌, length};
+ghost use Rattle.base.specs.Refusal.{refusal_of};
+ghost use Rattle.image.specs.Image.{image_of};
+ghost use Rattle.vaznirokh.specs.Library.{length_number, header_of_words, vaz_run, vaz_run_log, vaz_run_counts, vaz_write, vaz_write_out};
+ghost use Rattle.vaznirokh.specs.Library.{vaz_new, vaz_new_state, vaz_arrive, vaz_arrive_state, vaz_arrive_answer, vaz_close, vaz_close_state};
+ghost use Rattle.vaznirokh.specs.Library.{vaz_drain, vaz_drain_state, vaz_drain_answer};
 
 use crate::answers;
+use base::{Refusal, unless};
 use layout::Header;
-use run::Counts;
 use switch::Switch;
 
 // 30 unless a run of words has n entries.
-pub(crate) fn length_number(n: usize, words: &[u32]) -> u32
-    ensures { result ≡ length_number n words.now }
+fn length(n: usize, words: &[u32]) -> Result<(), Refusal>
+    ensures { refusal_of result ≡ length_number n words.now }
 {
-    base::unless(words.len() == n, 30)
-}
-
-// The same for the words of a switch and an answer of n words.
-pub(crate) fn lengths_number(n: usize, state: &[u32], answer: &[u32]) -> u32
-    ensures { result ≡ (length_number 1066 state.now ⨟ length_number n answer.now) }
-{
-    base::first(length_number(1066, state), length_number(n, answer))
-}
-
-// Six counts into the words that are lent for them.
-fn put_counts(words: &mut [u32], counts: Counts)
-    requires { length words.old ≡ 6 }
-    ensures { words.new ≡ count_words counts }
-{
-    words[0] = counts.arrived;
-    words[1] = counts.dropped;
-    words[2] = counts.crossed;
-    words[3] = counts.outmoved;
-    words[4] = counts.sent;
-    words[5] = counts.held;
+    unless(words.len() == n, Refusal::LentLength)
 }
 
 // A whole trace.
-pub(crate) fn run(trace: &[u8], log: &mut [u32], counts: &mut [u32]) -> u32
-    requires { length counts.old ≡ 6 }
-    ensures value { result ≡ (ran trace.now log.old).refusal }
-    ensures log_after { log.new ≡ ran_log trace.now log.old }
-    ensures counts_after { counts.new ≡ settled result (count_words (ran trace.now log.old).counts) counts.old }
+pub(crate) fn run(trace: &[u8], log: &mut [u32], counts: &mut [u32]) -> Result<(), Refusal>
+    ensures value { refusal_of result ≡ vaz_run trace.now log.old counts.old }
+    ensures log_after { log.new ≡ vaz_run_log trace.now log.old counts.old }
+    ensures counts_after { counts.new ≡ vaz_run_counts trace.now log.old counts.old }
 {
-    let ran = run::run(trace, log);
-    let n = ran.refusal;
-    if n != 0 {
-        return n;
-    }
-    let six = ran.counts;
-    put_counts(counts, six);
-    0
+    length(6, counts)?;
+    let six = run::run(trace, log)?;
+    counts.copy_from_slice(&answers::count_words(six));
+    Ok(())
 }
 
 // Six words as a header.
-pub(crate) fn header(words: &[u32]) -> Header
+#[tactic(auto, unfolding(crate::specs::Library::header_of_words))]
+fn header(words: &[u32]) -> Header
     ensures { result ≡ header_of_words words.now }
 {
     Header {
@@ -71,6 +45,22 @@ pub(crate) fn header(words: &[u32]) -> Header
     }
 }
 
+// A trace from a header's words and three tables.
+pub(crate) fn write(
+    words: &[u32],
+    capacities: &[u16],
+    slot_counts: &[u16],
+    arrivals: &[u8],
+    out: &mut [u8],
+) -> Result<(), Refusal>
+    ensures value { refusal_of result ≡ vaz_write words.now capacities.now slot_counts.now arrivals.now out.old }
+    ensures out_after { out.new ≡ vaz_write_out words.now capacities.now slot_counts.now arrivals.now out.old }
+{
+    length(6, words)?;
+    trace_write::write(header(words), capacities, slot_counts, arrivals, out)?;
+    Ok(())
+}
+
 // A switch into the 1,066 words that are lent for it.
 fn store(state: &mut [u32], s: Switch)
     requires { length state.old ≡ 1066 }
@@ -80,74 +70,56 @@ fn store(state: &mut [u32], s: Switch)
 }
 
 // A new switch.
-pub(crate) fn new(trace: &[u8], state: &mut [u32]) -> u32
-    requires { length state.old ≡ 1066 }
-    ensures value { result ≡ (made trace.now).refusal }
-    ensures state_after { state.new ≡ settled result (image_of (made trace.now).switch) state.old }
+pub(crate) fn new(trace: &[u8], state: &mut [u32]) -> Result<(), Refusal>
+    ensures value { refusal_of result ≡ vaz_new trace.now state.old }
+    ensures state_after { state.new ≡ vaz_new_state trace.now state.old }
 {
-    let new = Switch::new(trace);
-    let n = new.refusal;
-    if n != 0 {
-        return n;
-    }
-    let s = new.switch;
+    length(1066, state)?;
+    let s = Switch::new(trace)?;
     store(state, s);
-    0
+    Ok(())
 }
 
 // One arrival.
-pub(crate) fn arrive(state: &mut [u32], input: u32, output: u32, answer: &mut [u32]) -> u32
-    requires { (length state.old ≡ 1066) × (length answer.old ≡ 1) }
-    ensures value { result ≡ taken_number (arrive (switch_of state.old) input output).answer }
-    ensures state_after { state.new ≡ settled result (image_of (arrive (switch_of state.old) input output).switch) state.old }
-    ensures answer_after { answer.new ≡ settled result (taken_word (arrive (switch_of state.old) input output).answer ∷ []) answer.old }
+pub(crate) fn arrive(
+    state: &mut [u32],
+    input: u32,
+    output: u32,
+    answer: &mut [u32],
+) -> Result<(), Refusal>
+    ensures value { refusal_of result ≡ vaz_arrive state.old input output answer.old }
+    ensures state_after { state.new ≡ vaz_arrive_state state.old input output answer.old }
+    ensures answer_after { answer.new ≡ vaz_arrive_answer state.old input output answer.old }
 {
-    let arrived = image::switch_of(state).arrive(input, output);
-    let taken = arrived.answer;
-    let words = answers::taken_words(taken);
-    let n = words.number;
-    if n != 0 {
-        return n;
-    }
-    let s = arrived.switch;
-    store(state, s);
-    answer[0] = words.word;
-    0
+    length(1066, state)?;
+    length(1, answer)?;
+    let arrived = image::switch_of(state).arrive(input, output)?;
+    store(state, arrived.switch);
+    answer[0] = answers::taken_word(arrived.taken);
+    Ok(())
 }
 
 // A closing.
-pub(crate) fn close(state: &mut [u32]) -> u32
-    requires { length state.old ≡ 1066 }
-    ensures value { result ≡ (close (switch_of state.old)).refusal }
-    ensures state_after { state.new ≡ settled result (image_of (close (switch_of state.old)).switch) state.old }
+pub(crate) fn close(state: &mut [u32]) -> Result<(), Refusal>
+    ensures value { refusal_of result ≡ vaz_close state.old }
+    ensures state_after { state.new ≡ vaz_close_state state.old }
 {
-    let closed = image::switch_of(state).close();
-    let n = closed.refusal;
-    if n != 0 {
-        return n;
-    }
-    let s = closed.switch;
+    length(1066, state)?;
+    let s = image::switch_of(state).close()?;
     store(state, s);
-    0
+    Ok(())
 }
 
 // A drain.
-pub(crate) fn drain(state: &mut [u32], limit: u32, answer: &mut [u32]) -> u32
-    requires { (length state.old ≡ 1066) × (length answer.old ≡ 2) }
-    ensures value { result ≡ drain_number (drain (switch_of state.old) limit).answer }
-    ensures state_after { state.new ≡ settled result (image_of (drain (switch_of state.old) limit).switch) state.old }
-    ensures answer_after { answer.new ≡ settled result (drain_word (drain (switch_of state.old) limit).answer ∷ (drain_quiet (drain (switch_of state.old) limit).answer ∷ [])) answer.old }
+pub(crate) fn drain(state: &mut [u32], limit: u32, answer: &mut [u32]) -> Result<(), Refusal>
+    ensures value { refusal_of result ≡ vaz_drain state.old limit answer.old }
+    ensures state_after { state.new ≡ vaz_drain_state state.old limit answer.old }
+    ensures answer_after { answer.new ≡ vaz_drain_answer state.old limit answer.old }
 {
-    let drained = image::switch_of(state).drain(limit);
-    let end = drained.answer;
-    let words = answers::drain_words(end);
-    let n = words.number;
-    if n != 0 {
-        return n;
-    }
-    let s = drained.switch;
-    store(state, s);
-    answer[0] = words.word;
-    answer[1] = words.quiet;
-    0
+    length(1066, state)?;
+    length(2, answer)?;
+    let drained = image::switch_of(state).drain(limit)?;
+    store(state, drained.switch);
+    answer.copy_from_slice(&answers::drain_words(drained.drain));
+    Ok(())
 }

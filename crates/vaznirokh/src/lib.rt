@@ -4,18 +4,21 @@
 #![tactic(auto)]
 
 mod answers; // answers.rt: answers as numbers
-mod lent; // lent.rt: the work on lent runs that have their lengths
+mod lent; // lent.rt: the work on lent runs
 
 ghost use Rattle.std.specs.Prelude.{◌≡◌};
 ghost use Rattle.vaznirokh.specs.Library.{vaz_examine, vaz_run, vaz_run_log, vaz_run_counts, vaz_write, vaz_write_out};
 ghost use Rattle.vaznirokh.specs.Library.{vaz_new, vaz_new_state, vaz_arrive, vaz_arrive_state, vaz_arrive_answer, vaz_close, vaz_close_state};
 ghost use Rattle.vaznirokh.specs.Library.{vaz_drain, vaz_drain_state, vaz_drain_answer};
 
+use base::refusal_of;
+
 // The verdict on a trace: 0, or 1 to 11.
+#[tactic(auto, unfolding(crate::specs::Library::vaz_examine))]
 pub fn vaz_examine(trace: &[u8]) -> u32
     ensures { result ≡ vaz_examine trace.now }
 {
-    answers::verdict_number(trace::examine(trace))
+    refusal_of(trace::examine(trace))
 }
 
 // A whole trace: its log, and the six counts arrived, dropped, crossed, outmoved, sent and held.
@@ -24,11 +27,7 @@ pub fn vaz_run(trace: &[u8], log: &mut [u32], counts: &mut [u32]) -> u32
     ensures log_after { log.new ≡ vaz_run_log trace.now log.old counts.old }
     ensures counts_after { counts.new ≡ vaz_run_counts trace.now log.old counts.old }
 {
-    let n = lent::length_number(6, counts);
-    if n != 0 {
-        return n;
-    }
-    lent::run(trace, log, counts)
+    refusal_of(lent::run(trace, log, counts))
 }
 
 // A trace from the header's first six words and three tables, into a lent output.
@@ -42,12 +41,7 @@ pub fn vaz_write(
     ensures value { result ≡ vaz_write header.now capacities.now slot_counts.now arrivals.now out.old }
     ensures out_after { out.new ≡ vaz_write_out header.now capacities.now slot_counts.now arrivals.now out.old }
 {
-    let n = lent::length_number(6, header);
-    if n != 0 {
-        return n;
-    }
-    let words = lent::header(header);
-    answers::written_number(trace_write::write(words, capacities, slot_counts, arrivals, out))
+    refusal_of(lent::write(header, capacities, slot_counts, arrivals, out))
 }
 
 // A new switch from a trace's header and capacities, into 1,066 lent words.
@@ -55,11 +49,7 @@ pub fn vaz_new(trace: &[u8], state: &mut [u32]) -> u32
     ensures value { result ≡ vaz_new trace.now state.old }
     ensures state_after { state.new ≡ vaz_new_state trace.now state.old }
 {
-    let n = lent::length_number(1066, state);
-    if n != 0 {
-        return n;
-    }
-    lent::new(trace, state)
+    refusal_of(lent::new(trace, state))
 }
 
 // One arrival at an input for an output, in the lent switch's slot: the answer is 1 for accepted and 2 for dropped.
@@ -68,11 +58,7 @@ pub fn vaz_arrive(state: &mut [u32], input: u32, output: u32, answer: &mut [u32]
     ensures state_after { state.new ≡ vaz_arrive_state state.old input output answer.old }
     ensures answer_after { answer.new ≡ vaz_arrive_answer state.old input output answer.old }
 {
-    let n = lent::lengths_number(1, state, answer);
-    if n != 0 {
-        return n;
-    }
-    lent::arrive(state, input, output, answer)
+    refusal_of(lent::arrive(state, input, output, answer))
 }
 
 // The lent switch's slot is closed.
@@ -80,11 +66,7 @@ pub fn vaz_close(state: &mut [u32]) -> u32
     ensures value { result ≡ vaz_close state.old }
     ensures state_after { state.new ≡ vaz_close_state state.old }
 {
-    let n = lent::length_number(1066, state);
-    if n != 0 {
-        return n;
-    }
-    lent::close(state)
+    refusal_of(lent::close(state))
 }
 
 // The lent switch is drained: the answer is 1 for empty and 0 for not, and then the quiet slots.
@@ -93,9 +75,5 @@ pub fn vaz_drain(state: &mut [u32], limit: u32, answer: &mut [u32]) -> u32
     ensures state_after { state.new ≡ vaz_drain_state state.old limit answer.old }
     ensures answer_after { answer.new ≡ vaz_drain_answer state.old limit answer.old }
 {
-    let n = lent::lengths_number(2, state, answer);
-    if n != 0 {
-        return n;
-    }
-    lent::drain(state, limit, answer)
+    refusal_of(lent::drain(state, limit, answer))
 }

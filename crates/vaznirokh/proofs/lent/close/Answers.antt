@@ -1,20 +1,40 @@
--- `vaznirokh::lent::close` meets its contract.
+-- `vaznirokh::lent::close` meets its contract: the length decides, and then the closing.
 -- Assumes nothing.
-use mathlib.Core.Path.{sym, ap, ◌∙◌}
-use Rattle.switch.specs.declared.Closed.{Closed}
+use mathlib.Core.Path.{ap, sym, ◌∙◌}
+use Rattle.base.specs.Refusal.{refusal_of, refusal_with}
 use Rattle.switch.specs.Steps.{close}
 use Rattle.image.specs.Image.{image_of}
-use Rattle.vaznirokh.specs.Library.{settled}
-use Rattle.vaznirokh.proofs.LibraryLaws.{kept}
+use Rattle.vaznirokh.specs.Library.{handed, vaz_close, vaz_close_state}
+use Rattle.vaznirokh.proofs.LibraryLaws.{right_length, wrong_length, wrong_kept, rest_refused, rest_kept, all_right, all_filled}
 use Rattle.vaznirokh.proofs.lent.close.Goals as goal
 
-pub returns-then-n-ne0 : goal.returns-then-n-ne0
-returns-then-n-ne0 c =
-    let e = c.close-closed.ensures ∙ ap close c.switch_of.ensures in
-    record { value = ap (λ (m : Closed). m.refusal) e; state_after = kept _ _ _ c.if-n-ne0.true }
+pub returns-in_err-length : goal.returns-in_err-length
+unfolding vaz_close vaz_close_state refusal_of
+returns-in_err-length c =
+    record {
+      value = wrong_length _ _ _ _ c.from_residual.ensures c.in_err-length.ensures;
+      state_after = wrong_kept _ _ _ _ c.from_residual.ensures c.in_err-length.ensures _ _;
+    }
+
+pub returns-in_err-s : goal.returns-in_err-s
+unfolding vaz_close vaz_close_state refusal_of refusal_with
+returns-in_err-s c =
+    let rest = ap refusal_with (c.in_err-s.ensures ∙ ap close c.switch_of.ensures) in
+    record {
+      value = rest_refused _ _ c.in_ok-length.ensures _ _ c.from_residual-in_err-s.ensures rest;
+      state_after = rest_kept _ _ c.in_ok-length.ensures _ _ c.from_residual-in_err-s.ensures rest _ _;
+    }
+
+pub store-requires : goal.store-requires
+unfolding refusal_of
+store-requires c = right_length 1066 c.args.state.now (sym c.in_ok-length.ensures)
 
 pub returns : goal.returns
-unfolding settled
+unfolding vaz_close vaz_close_state refusal_of refusal_with handed
 returns c =
-    let e = c.close-closed.ensures ∙ ap close c.switch_of.ensures in
-    record { value = sym c.if-n-ne0.false ∙ ap (λ (m : Closed). m.refusal) e; state_after = c.store.ensures ∙ ap (λ (m : Closed). image_of m.switch) e }
+    let same = c.in_ok-s.ensures ∙ ap close c.switch_of.ensures in
+    let rest = ap refusal_with same in
+    record {
+      value = all_right _ _ c.in_ok-length.ensures rest;
+      state_after = all_filled _ _ c.in_ok-length.ensures rest _ _ _ (c.store.ensures ∙ ap image_of (ap handed same));
+    }

@@ -1,40 +1,65 @@
--- `vaznirokh::lent::drain` meets its contract.
+-- `vaznirokh::lent::drain` meets its contract: the lengths decide, and then the drain.
 -- Assumes nothing.
-use mathlib.Core.Path.{sym, ap, ◌∙◌}
-use native.Mathlib.Omega.{arith}
-use lib.ListN.{length-set}
+use mathlib.Core.Path.{ap, sym, ◌∙◌}
+use lib.ListN.{length}
+use Rattle.base.specs.Refusal.{refusal_of, refusal_with}
 use Rattle.switch.specs.declared.Switch.{Switch}
-use Rattle.switch.specs.declared.Drained.{Drained}
 use Rattle.switch.specs.Draining.{drain}
 use Rattle.image.specs.Image.{image_of}
-use Rattle.vaznirokh.specs.Library.{settled, drain_number, drain_word, drain_quiet}
-use Rattle.vaznirokh.proofs.LibraryLaws.{kept, two_words}
+use Rattle.vaznirokh.specs.Library.{drained_switch, drained_words, vaz_drain, vaz_drain_state, vaz_drain_answer}
+use Rattle.vaznirokh.proofs.LibraryLaws.{right_length, first_wrong, second_wrong, wrong_length, wrong_kept, rest_refused, rest_kept, all_right, all_filled}
 use Rattle.vaznirokh.proofs.lent.drain.Goals as goal
 
-pub returns-then-n-ne0 : goal.returns-then-n-ne0
-returns-then-n-ne0 c =
-    let e = c.drain-drained.ensures ∙ ap (λ (s : Switch). drain s c.args.limit) c.switch_of.ensures in
+pub returns-in_err-length : goal.returns-in_err-length
+unfolding vaz_drain vaz_drain_state vaz_drain_answer refusal_of
+returns-in_err-length c =
+    let exit = c.from_residual.ensures in
+    let wrong = first_wrong _ _ _ c.in_err-length.ensures in
     record {
-      value = c.drain_words-words.ensures.0 ∙ ap (λ (m : Drained). drain_number m.answer) e;
-      state_after = kept _ _ _ c.if-n-ne0.true;
-      answer_after = kept _ _ _ c.if-n-ne0.true;
+      value = wrong_length _ _ _ _ exit wrong;
+      state_after = wrong_kept _ _ _ _ exit wrong _ _;
+      answer_after = wrong_kept _ _ _ _ exit wrong _ _;
     }
 
-pub bounds-answer-1 : goal.bounds-answer-1
-bounds-answer-1 c =
-    omega (arith, length-set c.args.answer.now 0 c.drain_words-words.result.word, c.requires.1)
+pub returns-in_err-length-2 : goal.returns-in_err-length-2
+unfolding vaz_drain vaz_drain_state vaz_drain_answer refusal_of
+returns-in_err-length-2 c =
+    let exit = c.from_residual-in_err-length-2.ensures in
+    let wrong = second_wrong _ _ _ c.in_ok-length.ensures c.in_err-length-2.ensures in
+    record {
+      value = wrong_length _ _ _ _ exit wrong;
+      state_after = wrong_kept _ _ _ _ exit wrong _ _;
+      answer_after = wrong_kept _ _ _ _ exit wrong _ _;
+    }
+
+pub returns-in_err-drained : goal.returns-in_err-drained
+unfolding vaz_drain vaz_drain_state vaz_drain_answer refusal_of refusal_with
+returns-in_err-drained c =
+    let exit = c.from_residual-in_err-drained.ensures in
+    let right = all_right _ _ c.in_ok-length.ensures c.in_ok-length-2.ensures in
+    let rest = ap refusal_with (c.in_err-drained.ensures ∙ ap (λ (s : Switch). drain s c.args.limit) c.switch_of.ensures) in
+    record {
+      value = rest_refused _ _ right _ _ exit rest;
+      state_after = rest_kept _ _ right _ _ exit rest _ _;
+      answer_after = rest_kept _ _ right _ _ exit rest _ _;
+    }
+
+pub store-requires : goal.store-requires
+unfolding refusal_of
+store-requires c = right_length 1066 c.args.state.now (sym c.in_ok-length.ensures)
+
+pub copy_from_slice-requires : goal.copy_from_slice-requires
+unfolding refusal_of
+copy_from_slice-requires c = right_length 2 c.args.answer.now (sym c.in_ok-length-2.ensures) ∙ sym (ap length c.drain_words.ensures)
 
 pub returns : goal.returns
-unfolding settled
+unfolding vaz_drain vaz_drain_state vaz_drain_answer refusal_of refusal_with drained_switch drained_words
 returns c =
-    let answer = c.args.answer.now in
-    let read = c.switch_of.ensures in
-    let e = c.drain-drained.ensures ∙ ap (λ (s : Switch). drain s c.args.limit) read in
-    let words = c.drain_words-words.ensures in
-    let word = words.1 ∙ ap (λ (m : Drained). drain_word m.answer) e in
-    let quiet = words.2 ∙ ap (λ (m : Drained). drain_quiet m.answer) e in
+    let right = all_right _ _ c.in_ok-length.ensures c.in_ok-length-2.ensures in
+    let same = c.in_ok-drained.ensures ∙ ap (λ (s : Switch). drain s c.args.limit) c.switch_of.ensures in
+    let rest = ap refusal_with same in
     record {
-      value = sym c.if-n-ne0.false ∙ words.0 ∙ ap (λ (m : Drained). drain_number m.answer) e;
-      state_after = c.store.ensures ∙ ap (λ (m : Drained). image_of m.switch) e;
-      answer_after = two_words answer _ _ _ _ c.requires.1 word quiet;
+      value = all_right _ _ right rest;
+      state_after = all_filled _ _ right rest _ _ _ (c.store.ensures ∙ ap image_of (ap drained_switch same));
+      answer_after = all_filled _ _ right rest _ _ _ (c.copy_from_slice.ensures.after ∙ c.drain_words.ensures ∙ ap drained_words same);
     }
