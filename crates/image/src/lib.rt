@@ -52,7 +52,7 @@ pub fn switch_of(state: &[u32]) -> Switch
     }
 }
 
-// Words from a place on; past the end none is stored. (`text::put` has another definition: it answers the next place.)
+// Words from a place on; past the end none is stored. (`text::put` has another definition: it answers the next place. An image is words at fixed places, for C's callers.)
 #[tactic(auto, using(crate::proofs::ImageLaws::copied, crate::proofs::ImageLaws::sets_past))]
 fn put(state: &mut [u32], at: usize, ws: &[u32])
     ensures { state.new ≡ sets state.old at ws.now }

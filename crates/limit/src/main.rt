@@ -5,7 +5,7 @@
 use base::Refusal;
 use run::Counts;
 
-// What cannot be written is left out.
+// What cannot be written is left out. (Its like in `stored` takes a narrower number; the two share no crate.)
 fn line(rt: &impl Print, name: &str, n: u64) {
     let _ = println!(rt; "{name} {n}");
 }

@@ -1,2 +1,3 @@
+pub mod PartLaws
 pub mod RequestsLaws
 pub mod Unique

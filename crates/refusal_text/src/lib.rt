@@ -45,7 +45,7 @@ pub fn refusal_line(page: &mut [u8], at: usize, n: u32) -> usize
     page.at
 }
 
-// Writes the line of refusal n.
+// Writes the line of refusal n. (No heap: a page of a fixed size.)
 fn tell<W: Write>(error: &mut W, n: u32) -> io::Result<()>
     ensures { OnOk result (Appends (W.contents error.old) (W.contents error.new) (refusal_line n)) }
 {

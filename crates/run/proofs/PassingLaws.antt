@@ -17,6 +17,7 @@ use Rattle.queues.specs.Events.{log_of}
 use Rattle.queues.specs.Log.{logged, onward}
 use Rattle.queues.specs.Turn.{turn}
 use Rattle.queues.specs.Slot.{Done, after, closing}
+use Rattle.switch.specs.declared.Switch.{Switch}
 use Rattle.switch.specs.Switch.{advanced}
 use Rattle.switch.specs.Making.{unused, fresh}
 use Rattle.switch.proofs.KeepsLaws.{conserved}
@@ -105,6 +106,10 @@ module _ (s : List ℕ) (accepted : reading s ≡ 0) (t : ℕ) (below : t < (hea
 module _ (s : List ℕ) (accepted : reading s ≡ 0) where
   pub ports_few : (h : Header) → h ≡ header_of s → h.ports ≤ 16
   ports_few h e = rw e (allowed (header_of s) (whole s accepted).header).ports.1
+
+  pub ports_of_lem : (w : Switch) → w ≡ fresh s → w.ports ≤ 16
+  unfolding fresh unused
+  ports_of_lem w e = let same : w.ports ≡ (header_of s).ports = ap (λ (v : Switch). v.ports) e in omega (arith, (allowed (header_of s) (whole s accepted).header).ports.1)
 
   -- neither the drops nor the arrivals passed are more than 4,096
   pub drops_few : (t : ℕ) → t ≤ (header_of s).slots → (slots s t).switch.dropped ≤ 4096

@@ -45,7 +45,7 @@ fn counts_in(answer: &[u8]) -> Counts {
     }
 }
 
-// The quiet slots after a run, 0 for a refused trace. A drain that is refused or does not end empty has no such number: 4,097 is none.
+// The quiet slots after a run, 0 for a refused trace. A drain that is refused or does not end empty has no such number: 4,097 is none, and a number since it is compared with the stored one.
 fn quiet_after(trace: &[u8]) -> u32 {
     let mut log = [0u32; 16384];
     let Ok(end) = run::finish(trace, &mut log) else {
@@ -75,7 +75,7 @@ fn same(trace: &[u8], answer: &[u8], stored: &[u8]) -> bool {
         && same_log(stored, number(answer, 8), &log)
 }
 
-// What cannot be written is left out.
+// What cannot be written is left out. (Its like in `limit` takes a wider number; the two share no crate.)
 fn line(rt: &impl Print, name: &str, n: u32) {
     let _ = println!(rt; "{name} {n}");
 }

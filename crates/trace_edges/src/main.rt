@@ -7,7 +7,7 @@ use base::{Refusal, refusal_of};
 use layout::Header;
 use std::fmt;
 
-// What a room holds before anything is written into it.
+// What a room holds before anything is written into it. (No heap: rooms and tables are of fixed sizes.)
 const BLANK: u8 = 170;
 
 // What reading the first n bytes is refused with, and 99 where there are fewer: a number, since it stands in the line that is printed.

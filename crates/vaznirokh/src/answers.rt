@@ -1,4 +1,4 @@
-// Answers as numbers.
+// Answers as the numbers that C's callers get (include/vaznirokh.h).
 ghost use Rattle.std.specs.Prelude.{◌≡◌, [], ◌∷◌};
 ghost use Rattle.vaznirokh.specs.Library.{taken_word, drain_word, drain_quiet, count_words};
 
