@@ -6,7 +6,7 @@ use Prim.Native.Nat.{ℕ, ◌+◌, ◌-◌, ◌≤◌, ◌<◌}
 use native.Mathlib.Omega.{arith}
 use Rattle.std.proofs.Math.Nat.{min-eq_left}
 use Rattle.queues.specs.declared.Queues.{Queues}
-use mathlib.Core.Path.{◌≡◌}
+use mathlib.Core.Path.{◌≡◌, ap₂}
 use mathlib.Core.Logic.{⊎_elim}
 use mathlib.Core.Bool.{true}
 use Rattle.base.proofs.Order.{le_or_lt}
@@ -19,7 +19,7 @@ use Rattle.slot_laws.proofs.ProgressLaws.{Served, closing_sends}
 use Rattle.switch.specs.declared.Switch.{Switch}
 use Rattle.switch.specs.Switch.{packets, held_in, held_out, held_cross, held_all, held, outmoved_kind, advanced}
 use Rattle.switch.specs.Allowed.{switch_allowed}
-use Rattle.switch.specs.Settling.{sent_of, outmoved_of, crossed_of, counted, counted_within, settled}
+use Rattle.switch.specs.Settling.{sent_of, outmoved_of, crossed_of, counted_as, counted, counted_within, settled}
 use Rattle.switch.specs.Steps.{close_step}
 use Rattle.switch.proofs.AllowedLaws.{sound}
 use Rattle.switch.proofs.QueuesKept.{queues_served}
@@ -31,20 +31,7 @@ unfolding held_all
 all_counted s slot q h a =
     let crossed : crossed_of s q ≤ 4294967295 = omega arith in
     let outmoved : outmoved_of s q ≤ 4294967295 = omega arith in
-    λ i.
-    record {
-      model = s.model;
-      order = s.order;
-      ports = s.ports;
-      speedup = s.speedup;
-      slot = slot;
-      arrived = s.arrived;
-      dropped = s.dropped;
-      crossed = min-eq_left crossed i;
-      outmoved = min-eq_left outmoved i;
-      sent = sent_of s q;
-      queues = q;
-    }
+    ap₂ (counted_as s slot q) (min-eq_left crossed) (min-eq_left outmoved)
 
 module _ (s : Switch) (z : Sized s.queues) (e : switch_allowed s ≡ true) where
   -- what is left was not dropped

@@ -14,9 +14,9 @@ outmoved_of s q = sent_of s q + held_out q
 abbrev pub crossed_of : Switch → Queues → ℕ
 crossed_of s q = outmoved_of s q + held_cross q
 
--- the switch with these queues, at a slot number
-abbrev pub counted : Switch → ℕ → Queues → Switch
-counted s slot q =
+-- the switch with these queues, at a slot number, where so many crossed and came out
+abbrev pub counted_as : Switch → ℕ → Queues → ℕ → ℕ → Switch
+counted_as s slot q crossed outmoved =
     record {
       model = s.model;
       order = s.order;
@@ -25,28 +25,18 @@ counted s slot q =
       slot = slot;
       arrived = s.arrived;
       dropped = s.dropped;
-      crossed = crossed_of s q;
-      outmoved = outmoved_of s q;
+      crossed = crossed;
+      outmoved = outmoved;
       sent = sent_of s q;
       queues = q;
     }
 
+abbrev pub counted : Switch → ℕ → Queues → Switch
+counted s slot q = counted_as s slot q (crossed_of s q) (outmoved_of s q)
+
 -- the same in counts of 32 bits: of a switch that is not allowed there may be more
 abbrev pub counted_within : Switch → ℕ → Queues → Switch
-counted_within s slot q =
-    record {
-      model = s.model;
-      order = s.order;
-      ports = s.ports;
-      speedup = s.speedup;
-      slot = slot;
-      arrived = s.arrived;
-      dropped = s.dropped;
-      crossed = min (crossed_of s q) 4294967295;
-      outmoved = min (outmoved_of s q) 4294967295;
-      sent = sent_of s q;
-      queues = q;
-    }
+counted_within s slot q = counted_as s slot q (min (crossed_of s q) 4294967295) (min (outmoved_of s q) 4294967295)
 
 -- the switch after a closing that leaves q
 abbrev pub settled : Switch → Queues → Switch

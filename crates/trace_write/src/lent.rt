@@ -48,7 +48,7 @@ impl Lent<'_> {
     }
 
     // The refusals 17, 9, 10, 11, 18, of a header whose numbers are allowed.
-    pub fn refusal(&self, room: usize) -> Result<(), Refusal>
+    pub(crate) fn refusal(&self, room: usize) -> Result<(), Refusal>
         ensures { result ≡ judged (body_refusal self.now.file.header self.now.capacities.now self.now.counts.now self.now.ports.now room) tt }
     {
         unless(self.lengths_right(), Refusal::TableLength)?;
@@ -77,7 +77,7 @@ impl Lent<'_> {
     }
 
     // The whole file, from the output's first byte on.
-    pub fn fill(&self, out: &mut [u8])
+    pub(crate) fn fill(&self, out: &mut [u8])
         requires capacities { 40 + 2 * length self.now.capacities.now ≡ self.now.file.places.counts }
         requires counts { self.now.file.places.counts + 2 * length self.now.counts.now ≡ self.now.file.places.arrivals }
         requires ports { self.now.file.places.arrivals + length self.now.ports.now ≡ self.now.file.places.total }
