@@ -1,7 +1,7 @@
 -- A step's answer, by what its refusals said: a refusal hands something back, and where nothing is refused the answer is the step's.
 -- Assumes nothing.
 use Prim.Native.Nat.{ℕ, zero, suc}
-use mathlib.Core.Path.{◌≡◌, refl, ap, ◌∙◌}
+use mathlib.Core.Path.{◌≡◌, refl, sym, ap, ◌∙◌}
 use Rattle.std.specs.Prelude.{Ok, Err, Result, IsErr, IsErrAnd, MatchResult}
 use Rattle.std.proofs.lemmas.Result.{err_from_is_err_and}
 use Rattle.base.specs.declared.Refusal.{Refusal}
@@ -39,3 +39,12 @@ pub not_refused : {A B : Type 0} (u x : A) (b : B) (n : ℕ) → ◌≡◌ {A = 
 unfolding judged_with
 not_refused u x b zero e = (refl, cc)
 not_refused u x b (suc n) e = cc
+
+-- both ways on from a verdict under `map_err` and `?`
+module _ {A B : Type 0} (b : B) (u : A) (n : ℕ) {r : Result A Refusal} {w : Result A (Refused B)} {Post : Refusal → Refused B → Type 0}
+    (post : (e : Refusal) (x : Refused B) → Post e x → x ≡ record { refusal = e; answer = b }) (m : MatchResult r (λ x. w ≡ Ok x) (λ e. IsErrAnd w (Post e))) (e : r ≡ judged n u) where
+  pub stops_with : {C : Type 0} (v : C) {f : Refused B} {q : Result C (Refused B)} → w ≡ Err f → IsErr q × IsErrAnd q (λ x. x ≡ f) → q ≡ judged_with n v b
+  stops_with v was exit = refused_by _ _ _ _ _ _ exit (sym was ∙ with_back _ b _ _ _ _ post m e)
+
+  pub goes_with : {x : A} → w ≡ Ok x → (n ≡ 0) × (x ≡ u)
+  goes_with was = not_refused _ _ _ _ (sym was ∙ with_back _ b _ _ _ _ post m e)

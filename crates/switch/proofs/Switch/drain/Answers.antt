@@ -1,25 +1,22 @@
 -- `switch::Switch::drain` meets its contract.
 -- Assumes nothing.
 use borrow.Author.Rules.{rules}
-use mathlib.Core.Path.{sym, ap, ◌∙◌}
+use mathlib.Core.Path.{ap, ◌∙◌}
 use Rattle.std.specs.Prelude.{Ok}
 use Rattle.switch.specs.Draining.{drain}
-use Rattle.switch.proofs.AnswersLaws.{with_back, refused_by, not_refused, stepped}
+use Rattle.switch.proofs.AnswersLaws.{stops_with, goes_with, stepped}
 use Rattle.switch.proofs.Switch.drain.Goals as goal
 
 pub returns-in_err-map_err : goal.returns-in_err-map_err
 unfolding drain
 returns-in_err-map_err c =
-    let judged = with_back _ c.args.self _ _ _ _ (λ e x p. search rules) c.map_err.ensures.cases c.drain_refusal.ensures in
-    refused_by _ _ _ _ _ _ c.from_residual.ensures (sym c.in_err-map_err.was ∙ judged)
+    stops_with c.args.self _ _ (λ e x p. search rules) c.map_err.ensures.cases c.drain_refusal.ensures _ c.in_err-map_err.was c.from_residual.ensures
 
 pub quiet_slots-requires : goal.quiet_slots-requires
 quiet_slots-requires c =
-    let judged = with_back _ c.args.self _ _ _ _ (λ e x p. search rules) c.map_err.ensures.cases c.drain_refusal.ensures in
-    (not_refused _ _ _ _ (sym c.in_ok-map_err.was ∙ judged)).0
+    (goes_with c.args.self _ _ (λ e x p. search rules) c.map_err.ensures.cases c.drain_refusal.ensures c.in_ok-map_err.was).0
 
 pub returns : goal.returns
 unfolding drain
 returns c =
-    let judged = with_back _ c.args.self _ _ _ _ (λ e x p. search rules) c.map_err.ensures.cases c.drain_refusal.ensures in
-    ap Ok c.quiet_slots.ensures ∙ stepped _ _ _ (not_refused _ _ _ _ (sym c.in_ok-map_err.was ∙ judged)).0
+    ap Ok c.quiet_slots.ensures ∙ stepped _ _ _ (goes_with c.args.self _ _ (λ e x p. search rules) c.map_err.ensures.cases c.drain_refusal.ensures c.in_ok-map_err.was).0
