@@ -78,6 +78,9 @@ pub sum_more : (f : ℕ → ℕ) (n : ℕ) → sum_below f (n + 1) ≡ sum_below
 unfolding sum_below
 sum_more f n = rw add-one
 
+pub sum_done : (f : ℕ → ℕ) (n k x : ℕ) → k ≤ n → n ≤ k → x ≡ sum_below f k → x ≡ sum_below f n
+sum_done f n k x h l a = let e : k ≡ n = omega arith in rw e at a
+
 pub sum_cong : (f g : ℕ → ℕ) (n : ℕ) → ((k : ℕ) → k < n → f k ≡ g k) → sum_below f n ≡ sum_below g n
 unfolding sum_below
 sum_cong f g zero e = refl

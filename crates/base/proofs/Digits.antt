@@ -1,16 +1,19 @@
 -- Numbers as bytes: how two and four bytes read, that a number of k bytes reads back what its digits spell, and that the digits of
 -- what was read are the bytes that were read. The last two are each one induction over the width.
 -- Assumes nothing.
-use Prim.Native.Nat.{ℕ, zero, suc, ◌+◌, ◌*◌, ◌/◌, ◌%◌, ◌^◌, ◌≤◌, ◌<◌}
+use Prim.Native.Nat.{ℕ, zero, suc, ◌+◌, ◌*◌, ◌/◌, ◌%◌, ◌^◌, ◌≤◌, ◌<◌, min}
 use native.Mathlib.Numerals.{add-one, add-two}
 use native.Mathlib.Omega.{arith}
 use mathlib.Core.Path.{◌≡◌, refl, sym, ap, ap₂, ◌∙◌}
-use mathlib.Core.List.{List, [], ◌∷◌, ◌++◌, append_assoc}
-use lib.ListN.{length, take, drop, length-append, get_or-eq_default}
-use lib.Seq.{drop-cons}
+use mathlib.Core.Logic.{⊎_elim}
+use mathlib.Core.List.{List, [], ◌∷◌, ◌++◌, append_assoc, append-nil}
+use lib.ListN.{length, get_or, take, drop, length-append, get_or-eq_default}
+use lib.Seq.{sets, take-suc, drop-cons, length-take-le}
 use native.Mathlib.Nat.{add_comm, mul-zero, mul-suc, pow-suc, div-lt_iff_lt-mul}
 use Rattle.base.specs.Digits.{byte, number, digits, spell}
 use Rattle.base.proofs.Lists.{drop_first}
+use Rattle.base.proofs.Order.{le_or_lt}
+use Rattle.base.proofs.Sets.{sets_then}
 
 pub number_two : (s : List ℕ) (p : ℕ) → number 2 s p ≡ byte s p + 256 * byte s (p + 1)
 unfolding number
@@ -28,6 +31,14 @@ number_past (suc k) s p h =
     let tail : number k s (suc p) ≡ 0 = number_past k s (suc p) (omega arith) in
     omega (arith, get_or-eq_default s 0 h)
 
+-- a place that is kept within the list reads the same
+pub number_kept : (k : ℕ) (s : List ℕ) (p : ℕ) → number k s (min p (length s)) ≡ number k s p
+number_kept k s p =
+    ⊎_elim
+    (λ (h : p ≤ length s). ap (λ (n : ℕ). number k s n) (omega arith))
+    (λ (h : length s < p). number_past k s _ (omega arith) ∙ sym (number_past k s p (omega arith)))
+    (le_or_lt p (length s))
+
 pub length_digits : (k v : ℕ) → length (digits k v) ≡ k
 unfolding digits
 length_digits zero v = refl
@@ -43,6 +54,13 @@ pub spell_append : (k : ℕ) (vs ws : List ℕ) → spell k (vs ++ ws) ≡ spell
 unfolding spell
 spell_append k [] ws = refl
 spell_append k (v ∷ vs) ws = rw (spell_append k vs ws, append_assoc)
+
+-- storing a table, one number more
+pub table_more : (w : ℕ) (l : List ℕ) (at : ℕ) (vs : List ℕ) (k : ℕ) → k < length vs → sets l at (spell w (take (k + 1) vs)) ≡ sets (sets l at (spell w (take k vs))) (at + w * k) (digits w (get_or vs k 0))
+unfolding spell
+table_more w l at vs k h =
+    let n : length (take k vs) ≡ k = length-take-le k vs (omega arith) in
+    rw (add-one, take-suc vs k 0 h, spell_append, sets_then, length_spell w (take k vs), n, append-nil)
 
 -- the digits of a number that k bytes hold read back as it, wherever they stand
 pub number_digits : (k v : ℕ) (s : List ℕ) (p : ℕ) (y : List ℕ) → drop p s ≡ digits k v ++ y → v < 256 ^ k → number k s p ≡ v

@@ -1,5 +1,6 @@
 pub mod Below
 pub mod Cases
+pub mod ChainLaws
 pub mod Digits
 pub mod Listed
 pub mod Lists

@@ -11,8 +11,9 @@ use mathlib.Core.List.{List, [], ◌∷◌}
 use mathlib.Core.Logic.{⊎_elim}
 use denote.Param.Members.{Mut, Called}
 use Rattle.std.specs.Array.{IsFromFnResult, IsFromFnResultFrom}
-use lib.ListN.{length, get_or, take, drop, length-append, length-drop, replicate, length-replicate, get_or-replicate, get_or-append}
-use lib.Seq.{ext_get_or, get_or_at, get_or-take, get_or-drop, length-take-le}
+use lib.ListN.{length, get_or, set, take, drop, length-append, length-drop, length-set, replicate, length-replicate, get_or-replicate, get_or-append}
+use borrow.Author.Count.{below_more}
+use lib.Seq.{ext_get_or, get_or-set_same, get_or-set_other, get_or_at, get_or-take, get_or-drop, length-take-le}
 use Rattle.base.specs.Below.{list_below}
 use Rattle.base.specs.Digits.{byte}
 use Rattle.base.proofs.Below.{below_suc}
@@ -44,6 +45,19 @@ listed_bytes s p n h =
     let fits : n ≤ length (drop p s) = omega (arith, length-drop p s) in
     listed_is (λ b. byte s (p + b)) n (take n (drop p s)) (length-take-le n (drop p s) fits)
     (λ k l. sym (get_or-take n (drop p s) k 0 l ∙ get_or-drop p s k 0))
+
+-- an array that a loop fills from its start
+module _ (f : ℕ → ℕ) (n : ℕ) where
+  pub fill_more : (l : List ℕ) (k v : ℕ) → k < n → length l ≡ n → ((m : ℕ) → m < k → get_or l m 0 ≡ f m) → v ≡ f k → (length (set l k v) ≡ n) × ((m : ℕ) → m < k + 1 → get_or (set l k v) m 0 ≡ f m)
+  fill_more l k v h e filled here = (
+    length-set l k v ∙ e,
+    below_more (λ m. get_or (set l k v) m 0 ≡ f m) k
+        (λ m less. get_or-set_other l k m v 0 (omega arith) ∙ filled m less)
+        (get_or-set_same l k v 0 (omega arith) ∙ here),
+  )
+
+  pub fill_done : (l : List ℕ) (k : ℕ) → n ≤ k → length l ≡ n → ((m : ℕ) → m < k → get_or l m 0 ≡ f m) → l ≡ list_below f n
+  fill_done l k h e filled = sym (listed_is f n l e (λ m less. sym (filled m (omega arith))))
 
 -- an array that `from_fn` made is the list of what its closure gives: each call gives f of its place, and keeps what the next call needs
 module _ {F : Type 0} (g : Mut F (ℕ × Unit {0}) ℕ) (f : ℕ → ℕ) (Keeps : F → Type 0) (call : (p : F) (i y : ℕ) (q : F) → Keeps p → Called g p (i, tt) y q → (y ≡ f i) × Keeps q) where

@@ -94,10 +94,26 @@ upto_visited false small p v =
       flagged = λ k l. ap (λ (fs : List Bool). get_or fs k false) v.of_flags ∙ p.flagged k l;
     }
 
+visited_lengths : (inlen outlen : List ℕ) (slot cycle i k : ℕ) (m : Bool) (b : Visits)
+    → (length b.flow.from ≡ length inlen) × (length b.flow.to ≡ length outlen)
+    → (length (visited m b slot cycle i k).flow.from ≡ length inlen) × (length (visited m b slot cycle i k).flow.to ≡ length outlen)
+unfolding visited flowed more fewer
+visited_lengths inlen outlen slot cycle i k true b e = (length-set b.flow.from (place i k) _ ∙ e.0, length-set b.flow.to k _ ∙ e.1)
+visited_lengths inlen outlen slot cycle i k false b e = e
+
 module _ (ports : ℕ) (turn outcap inlen outlen : List ℕ) (slot cycle : ℕ) where
   -- the first u visits
   abbrev pub first : ℕ → Visits
   first u = visits ports turn outcap inlen outlen slot cycle u
+
+  -- both kinds have as many queues as before
+  pub lengths_kept : (u : ℕ) → (length (first u).flow.from ≡ length inlen) × (length (first u).flow.to ≡ length outlen)
+  unfolding visits still
+  lengths_kept zero = (refl, refl)
+  lengths_kept (suc u) =
+      let i = get_or turn u 0 in
+      let k = choice ports outcap inlen outlen (first u).taken i in
+      visited_lengths inlen outlen slot cycle i k (ltb k ports) (first u) (lengths_kept u)
 
   -- before the first visit
   pub upto_none : (log : List ℕ) (at : ℕ) → Upto (first 0) log at inlen outlen log (replicate 16 false) (record { at = at; moved = false })

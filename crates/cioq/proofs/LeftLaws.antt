@@ -11,9 +11,14 @@ use Rattle.queues.specs.Events.{Event, word, log_of, happened}
 use Rattle.queues.specs.Log.{entered, logged, onward}
 use Rattle.queues.specs.Flow.{Flow, flowed}
 use Rattle.queues.specs.Lent.{Left}
+use Rattle.queues.proofs.LogLaws.{length_logged}
 use Rattle.queues.proofs.MoveLaws.{happened_then, log_then, at_then}
 
 module _ {f : Flow} {from to log kept : List ℕ} {at : ℕ} {w : Went} (l : Left f from to log kept at w) where
+  -- the log keeps its length
+  pub left_length : length kept ≡ length log
+  left_length = ap length l.of_log ∙ length_logged log at (log_of f.events)
+
   -- equal parts are left alike
   pub left_same : {from' to' kept' : List ℕ} {r : Went} → from' ≡ from → to' ≡ to → kept' ≡ kept → r.at ≡ w.at → r.moved ≡ w.moved
       → Left f from' to' log kept' at r

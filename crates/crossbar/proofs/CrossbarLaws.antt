@@ -5,12 +5,14 @@ use native.Mathlib.Numerals.{add-one}
 use native.Mathlib.Omega.{arith}
 use mathlib.Core.Path.{◌≡◌, refl, sym, ap}
 use mathlib.Core.Bool.{Bool, true, false, ◌&&◌, ◌||◌, and-false, or-false}
-use mathlib.Core.List.{List, append-nil}
-use lib.ListN.{length, get_or}
+use mathlib.Core.List.{List, [], append-nil}
+use lib.ListN.{length, take, get_or}
+use lib.Seq.{length-take-le, get_or-take}
 use lib.Dec.{ltb}
 use borrow.Author.Tests.{lt-ltb, le-ltb}
+use Rattle.base.specs.Below.{lowest}
 use Rattle.base.proofs.Below.{both_true}
-use Rattle.base.proofs.Lowest.{lowest_passes}
+use Rattle.base.proofs.Lowest.{lowest_passes, lowest_cong}
 use Rattle.queues.specs.declared.Went.{Went}
 use Rattle.queues.specs.Queues.{place, waits, has_room}
 use Rattle.queues.specs.Events.{Event, crossed_at, outmoved_at}
@@ -115,6 +117,18 @@ pub outmove_full : (turn outcap crosslen outlen : List ℕ) (slot cycle j : ℕ)
     → Left (outmove_step turn outcap (still crosslen outlen) slot cycle j) crosslen outlen log log at (record { at = at; moved = false })
 unfolding outmove_step outmoved_one still
 outmove_full turn outcap crosslen outlen slot cycle j full log at = rw full (left_still crosslen outlen log at)
+
+-- the first n inputs in turn, and the first of them that has a packet for output j
+module _ (n : ℕ) (turn : List ℕ) (few : n ≤ length turn) where
+  pub first_length : length (take n turn) ≡ n
+  first_length = length-take-le n turn (omega arith)
+
+  pub outmover_is : (crosslen : List ℕ) (j : ℕ) → outmover (take n turn) (still crosslen []) j ≡ lowest (λ u. waits crosslen (place (get_or turn u 0) j)) n
+  unfolding outmover still
+  outmover_is crosslen j =
+      rw first_length
+      (lowest_cong (λ u. waits crosslen (place (get_or (take n turn) u 0) j)) (λ u. waits crosslen (place (get_or turn u 0) j)) n
+      (λ u h. ap (λ (i : ℕ). waits crosslen (place i j)) (get_or-take n turn u 0 h)))
 
 -- one output
 module _ (turn outcap crosslen outlen : List ℕ) (slot cycle j : ℕ) where

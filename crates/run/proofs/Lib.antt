@@ -1,4 +1,5 @@
 pub mod AnswersLaws
+pub mod CapacitiesLaws
 pub mod CountsLaws
 pub mod EndingLaws
 pub mod EnoughLaws

@@ -36,7 +36,7 @@ pub record Here (log : List ℕ) (h : History) (q : Queues) (kept : List ℕ) (a
   pub of_dropped : dropped ≡ h.switch.dropped
 
 -- what is done to the queues, added to the history
-here_then : (log mid kept : List ℕ) (h : History) (q p : Queues) (at dropped : ℕ) (r : Took) (d : Done) (slot : ℕ) → Here log h q mid at dropped → Taken d p mid kept at r → Here log (grown h d slot) p kept r.at (dropped + r.dropped)
+pub here_then : (log mid kept : List ℕ) (h : History) (q p : Queues) (at dropped : ℕ) (r : Took) (d : Done) (slot : ℕ) → Here log h q mid at dropped → Taken d p mid kept at r → Here log (grown h d slot) p kept r.at (dropped + r.dropped)
 unfolding grown advanced
 here_then log mid kept h q p at dropped r d slot a b =
     record {

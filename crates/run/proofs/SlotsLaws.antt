@@ -20,7 +20,7 @@ use Rattle.run.specs.Taking.{takings, slot_of, Taken}
 use Rattle.run.proofs.TakingLaws.{taken_then}
 
 -- arrivals keep the capacities and the numbers of queues
-takings_kept : (q : Queues) (slot : ℕ) (part : List ℕ) (k : ℕ) → Sized q → Kept q (takings q slot part k).queues
+pub takings_kept : (q : Queues) (slot : ℕ) (part : List ℕ) (k : ℕ) → Sized q → Kept q (takings q slot part k).queues
 unfolding takings begun after
 takings_kept q slot part zero z = kept_same q
 takings_kept q slot part (suc k) z =

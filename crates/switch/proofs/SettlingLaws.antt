@@ -1,6 +1,6 @@
 -- What the code's closing leaves, put together: the queues after all cycles and sendings, and the counts found from what they hold.
 -- Assumes nothing.
-use Prim.Native.Nat.{ℕ, ◌≤◌, ◌<◌, min}
+use Prim.Native.Nat.{ℕ, ◌+◌, ◌≤◌, ◌<◌, min}
 use native.Mathlib.Omega.{arith}
 use mathlib.Core.Path.{◌≡◌, sym, ap, ap₂, ◌∙◌}
 use mathlib.Core.Bool.{Bool, true}
@@ -15,8 +15,14 @@ use Rattle.queues.proofs.TurnPlaces.{places_in_turn}
 use Rattle.slot_laws.proofs.Balance.{Sized}
 use Rattle.slot_laws.proofs.SlotLaws.{closing_balanced}
 use Rattle.switch.specs.declared.Switch.{Switch}
+use Rattle.switch.specs.Switch.{held_in, held_out, held_cross, held_all}
 use Rattle.switch.specs.Allowed.{switch_allowed}
 use Rattle.switch.specs.Steps.{close_refusal}
+
+-- what is held and dropped, found by its three parts, is at most what arrived
+pub held_arrived : (q : Queues) (d a i o x : ℕ) → held_all q + d ≤ a → i ≡ held_in q → o ≡ held_out q → x ≡ held_cross q → i + o + x + d ≤ a
+unfolding held_all
+held_arrived q d a i o x h ei eo ex = rw (ei, eo, ex) h
 
 -- the closing that the code runs, on the first N of 16 places
 pub same_closing : (crossbar : Bool) (q : Queues) (order ports speedup slot : ℕ) (places : List ℕ) → ports ≤ 16 → places ≡ turn_places order ports slot → closing crossbar q (min ports 16) (take (min ports 16) places) speedup slot ≡ closing crossbar q ports (turn order ports slot) speedup slot

@@ -32,6 +32,11 @@ pub right_length : (n : ℕ) (run : List ℕ) → length_number n run ≡ 0 → 
 unfolding length_number
 right_length n run e = eqb-true (length run) n (unless_zero _ 29 e)
 
+pub both_right : (n : ℕ) (p q : List ℕ) (m k : ℕ) → n ≡ (length_number m p ⨟ length_number k q) → n ≡ 0 → (length p ≡ m) × (length q ≡ k)
+both_right n p q m k e z =
+    let parts = chain_zero _ _ (sym e ∙ z) in
+    (right_length m p parts.0, right_length k q parts.1)
+
 -- after a refusal a lent run holds what it held
 pub kept : (n : ℕ) (new held : List ℕ) → (n ≡ 0 → ⊥) → held ≡ settled n new held
 unfolding settled
