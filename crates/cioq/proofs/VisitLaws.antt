@@ -1,10 +1,12 @@
 -- One visit: what an input may take, test by test; a chosen output has room; and what a visit leaves by the number that was chosen.
 -- Assumes nothing.
-use Prim.Native.Nat.{ℕ, ◌≤◌, ◌<◌}
+use Prim.Native.Nat.{ℕ, ◌+◌, ◌*◌, ◌≤◌, ◌<◌}
+use native.Mathlib.Omega.{arith}
 use mathlib.Core.Path.{◌≡◌, refl, sym, ap, ◌∙◌, subst}
-use mathlib.Core.Bool.{Bool, true, false, not, and-false}
+use mathlib.Core.Bool.{Bool, true, false, not, ◌&&◌, and-false}
 use mathlib.Core.List.{List}
 use lib.ListN.{get_or, set}
+use lib.Dec.{ltb}
 use borrow.Author.Tests.{lt-ltb, le-ltb}
 use Rattle.base.proofs.Below.{both_true}
 use Rattle.base.proofs.Lowest.{lowest_passes}
@@ -70,3 +72,10 @@ module _ {slot cycle i : ℕ} {inlen outlen : List ℕ} {flags : List Bool} {log
   moves {inlen'} {outlen'} {flags'} {log'} {r} n j k e h v =
       subst (λ (l : ℕ). VisitedTo n l slot cycle i inlen outlen flags log w inlen' outlen' flags' log' r) e
       (subst (λ (m : Bool). Visited m slot cycle i j inlen outlen flags log w inlen' outlen' flags' log' r) (sym (lt-ltb j n h)) v)
+
+-- an input's own queues say the same, as the queues of the only input
+pub may_in_row : (outcap inlen row outlen : List ℕ) (flags : List Bool) (i j : ℕ) → get_or row j 0 ≡ get_or inlen (place i j) 0 → may_take outcap row outlen flags 0 j ≡ may_take outcap inlen outlen flags i j
+unfolding may_take eligible waits place
+may_in_row outcap inlen row outlen flags i j e =
+    let first : 0 * 16 + j ≡ j = omega arith in
+    ap (λ (n : ℕ). (ltb 0 n && has_room outcap outlen j) && not (get_or flags j false)) (ap (λ (k : ℕ). get_or row k 0) first ∙ e)
