@@ -4,7 +4,7 @@
 mod judge; // judge.rt: which switch values are allowed, refusal 13
 mod make; // make.rt: the capacities of a new switch, out of a trace
 
-ghost use Rattle.std.specs.Prelude.{◌≡◌, true, ◌+◌, ◌<◌, ◌≤◌, get_or, eqb, min};
+ghost use Rattle.std.specs.Prelude.{◌≡◌, true, ◌+◌, ◌<◌, ◌≤◌, length, get_or, eqb, min};
 ghost use Rattle.base.specs.Refusal.{unless, judged};
 ghost use Rattle.layout.specs.Header.{has_crosspoints};
 ghost use Rattle.queues.specs.Queues.{more, lengths};
@@ -81,9 +81,10 @@ impl Packets {
     }
 }
 
+// What queues hold that stay where they are: a copy of all is four kibibytes, and a drain would make one for each slot.
 #[tactic(auto, unfolding(crate::specs::Switch::held_in, crate::specs::Switch::held_out, crate::specs::Switch::held_cross, crate::specs::Switch::packets))]
-pub fn holds(q: Queues) -> Packets
-    ensures inputs_value { (result.inputs ≡ held_in q) × (result.outputs ≡ held_out q) × (result.crosspoints ≡ held_cross q) }
+fn held_by(q: &Queues) -> Packets
+    ensures inputs_value { (result.inputs ≡ held_in q.now) × (result.outputs ≡ held_out q.now) × (result.crosspoints ≡ held_cross q.now) }
     ensures inputs_bound { (result.inputs < 281474976710656) × (result.outputs < 281474976710656) × (result.crosspoints < 281474976710656) }
 {
     Packets {
@@ -91,6 +92,13 @@ pub fn holds(q: Queues) -> Packets
         outputs: queues::packets(&q.outlen, 16),
         crosspoints: queues::packets(&q.crosslen, 256),
     }
+}
+
+pub fn holds(q: Queues) -> Packets
+    ensures inputs_value { (result.inputs ≡ held_in q) × (result.outputs ≡ held_out q) × (result.crosspoints ≡ held_cross q) }
+    ensures inputs_bound { (result.inputs < 281474976710656) × (result.outputs < 281474976710656) × (result.crosspoints < 281474976710656) }
+{
+    held_by(&q)
 }
 
 // Refusal 13 of a switch value that is not allowed.
@@ -162,21 +170,21 @@ impl Switch {
     }
 
     // The queues after all cycles and the sendings of the slot. A run closes its slots on lent queues and with a log (run/src/slots.rt).
-    fn queues_closed(self) -> Queues
-        requires { self.ports ≤ 16 }
-        ensures { result ≡ (closing (has_crosspoints self.model) self.queues self.ports (turn self.order self.ports self.slot) self.speedup self.slot).queues }
+    fn queues_closed(&self) -> Queues
+        requires few { self.now.ports ≤ 16 }
+        requires long { length self.now.queues.incap ≡ 256 }
+        ensures { result ≡ (closing (has_crosspoints self.now.model) self.now.queues self.now.ports (turn self.now.order self.now.ports self.now.slot) self.now.speedup self.now.slot).queues }
     {
-        let q = self.queues;
         let slot = Slot {
             crossbar: self.model == 2,
             ports: self.ports,
             speedup: self.speedup,
             turn: &queues::turn(self.order, self.ports, self.slot),
             number: self.slot,
-            outcap: &q.outcap,
-            crosscap: &q.crosscap,
+            outcap: &self.queues.outcap,
+            crosscap: &self.queues.crosscap,
         };
-        let mut next = q;
+        let mut next = self.queues;
         closing::close(
             slot,
             &mut next.inlen,
@@ -193,7 +201,7 @@ impl Switch {
     pub fn settle(self, slot: u32, queues: Queues) -> Switch
         ensures { result ≡ counted_within self slot queues }
     {
-        let held = holds(queues);
+        let held = held_by(&queues);
         let kept = self.arrived.saturating_sub(self.dropped) as u64;
         let sent = kept.saturating_sub(held.all());
         let outmoved = sent + held.outputs;
@@ -208,9 +216,10 @@ impl Switch {
     }
 
     // One closing that is not refused.
-    fn step(self) -> Switch
-        requires { switch_allowed self ≡ true }
-        ensures { result ≡ close_step self }
+    fn step(&self) -> Switch
+        requires allowed { switch_allowed self.now ≡ true }
+        requires long { (length self.now.queues.incap ≡ 256) × (length self.now.queues.outcap ≡ 16) × (length self.now.queues.crosscap ≡ 256) × (length self.now.queues.inlen ≡ 256) × (length self.now.queues.outlen ≡ 16) × (length self.now.queues.crosslen ≡ 256) }
+        ensures { result ≡ close_step self.now }
     {
         self.settle(self.slot + 1, self.queues_closed())
     }
@@ -234,10 +243,10 @@ impl Switch {
 
     // Whether nothing is held.
     #[tactic(auto, unfolding(crate::specs::Switch::held, crate::specs::Switch::held_all))]
-    fn is_empty(self) -> bool
-        ensures { result ≡ eqb (held self) 0 }
+    fn is_empty(&self) -> bool
+        ensures { result ≡ eqb (held self.now) 0 }
     {
-        holds(self.queues).all() == 0
+        held_by(&self.queues).all() == 0
     }
 
     // Closings until nothing is held, at most `limit` of them.

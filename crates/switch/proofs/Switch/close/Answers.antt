@@ -13,8 +13,8 @@ unfolding close
 returns-in_err-map_err c =
     stops_with c.args.self _ _ (λ e x p. search rules) c.map_err.ensures.cases c.close_refusal.ensures _ c.in_err-map_err.was c.from_residual.ensures
 
-pub step-requires : goal.step-requires
-step-requires c =
+pub step-requires-clause-allowed : goal.step-requires-clause-allowed
+step-requires-clause-allowed c =
     (may_close c.args.self (goes_with c.args.self _ _ (λ e x p. search rules) c.map_err.ensures.cases c.close_refusal.ensures c.in_ok-map_err.was).0).0
 
 pub returns : goal.returns

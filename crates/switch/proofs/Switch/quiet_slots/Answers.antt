@@ -26,7 +26,9 @@ step-now-requires c = let a = c.args in
     let sized : Sized c.args.self.queues = record { incap = search rules; outcap = search rules; crosscap = search rules; inlen = search rules; outlen = search rules; crosslen = search rules } in
     let l = c.loop-n in
     let may = drain_may a.self a.limit c.requires in
-    rw l.invariant.0 (closings_keep a.self sized may.0 l.n (omega (arith, may.2))).allowed
+    let kept = closings_keep a.self sized may.0 l.n (omega (arith, may.2)) in
+    let z = kept.sized in
+    record { allowed = rw l.invariant.0 kept.allowed; long = rw l.invariant.0 (z.incap, z.outcap, z.crosscap, z.inlen, z.outlen, z.crosslen) }
 
 pub loop-n-preserved : goal.loop-n-preserved
 loop-n-preserved c = let a = c.args in
