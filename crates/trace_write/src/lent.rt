@@ -88,6 +88,6 @@ impl Lent<'_> {
         put::table(&mut out[..40], &self.words());
         put::table(&mut out[40..p.counts], self.capacities);
         put::table(&mut out[p.counts..p.arrivals], self.counts);
-        out[p.arrivals..p.total].copy_from_slice(self.ports);
+        put::bytes(&mut out[p.arrivals..p.total], self.ports);
     }
 }

@@ -39,3 +39,13 @@ pub(crate) fn table<T: Number<K> + Copy, const K: usize>(out: &mut [u8], numbers
         out[K * k..K * k + K].copy_from_slice(&v.digits());
     }
 }
+
+// A table of bytes, from the slice's start to its end. (`copy_from_slice` of a length that is not a constant would ask C's callers for `memmove`, which the archive needs for nothing else.)
+pub(crate) fn bytes(out: &mut [u8], table: &[u8])
+    requires { length out.old ≡ length table.now }
+    ensures { out.new ≡ table.now }
+{
+    for (k, b) in table.iter().enumerate() {
+        out[k] = *b;
+    }
+}

@@ -19,4 +19,4 @@ returns c =
     c.table.ensures
     c.table-2.ensures
     c.table-3.ensures
-    c.copy_from_slice.ensures.after
+    c.bytes.ensures
